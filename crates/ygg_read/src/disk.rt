@@ -12,7 +12,6 @@ use ygg_base::{DiskKind, Keyword, Symbol};
 use ygg_syntax::tree::DiskText;
 
 /// Reads the disk.
-#[tactic(auto, using(crate::proofs::ExpressionPhrases::joined))]
 pub fn disk(reader: &mut Reader<'_>) -> Option<DiskText>
     ensures reads { IfSome result (λ d. Reads (disk_text d ∷ []) reader.old reader.new) }
     ensures goes { OnSome result (Goes (word_of word.Disk ∷ disk_kind ∷ number ∷ word_of word.Of ∷ number ∷ word_of word.Of ∷ number
@@ -41,7 +40,6 @@ pub fn disk(reader: &mut Reader<'_>) -> Option<DiskText>
 }
 
 /// Reads the kind of the disk.
-#[tactic(auto, using(crate::proofs::Files::begins_sync, crate::proofs::Files::begins_async, crate::proofs::Files::stopped_kind))]
 fn kind(reader: &mut Reader<'_>) -> Option<DiskKind>
     ensures reads { IfSome result (λ k. Reads (keyword (disk_word k) ∷ []) reader.old reader.new) }
     ensures goes { OnSome result (Goes (disk_kind ∷ []) reader.old reader.new) }

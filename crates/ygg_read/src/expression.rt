@@ -102,7 +102,6 @@ impl<'a> Reader<'a> {
     }
 
     /// Reads what follows the value of a constant.
-    #[tactic(auto, using(crate::proofs::ExpressionBegins::begins_constant, crate::proofs::ExpressionPhrases::reads_constant, crate::proofs::ExpressionPhrases::parts_constant))]
     fn constant(&mut self, value: Numeral) -> Option<Expr>
         ensures reads { IfSome result (λ e. Reads (expr e ∷ []) (token (mark.Num value.value) value.place ∷ self.old) self.new) }
         ensures indexable { IfSome result (λ e. (phrase e).indexable ≡ true) }
@@ -120,7 +119,6 @@ impl<'a> Reader<'a> {
     }
 
     /// Reads what follows a `low`.
-    #[tactic(auto, using(crate::proofs::ExpressionBegins::begins_low, crate::proofs::ExpressionPhrases::reads_low, crate::proofs::ExpressionPhrases::parts_low))]
     fn low(&mut self, first: Place) -> Result<Option<Expr>, NoMemory>
         ensures reads { IfRead result (λ e. Reads (expr e ∷ []) (token (mark.Keyword word.Low) first ∷ self.old) self.new) }
         ensures indexable { IfRead result (λ e. (phrase e).indexable ≡ true) }

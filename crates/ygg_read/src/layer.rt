@@ -213,7 +213,6 @@ fn after_operations(reader: &mut Reader<'_>) -> Result<Option<AfterOperations>, 
 }
 
 /// Reads the keyword `crash` and its block, or nothing where the keyword doesn't come.
-#[tactic(auto, using(crate::proofs::Stopped::left_out, crate::proofs::Files::reads_no_crash_block))]
 fn crash(reader: &mut Reader<'_>) -> Result<Option<(Place, Block)>, NoMemory>
     ensures reads { IfRead result (λ read. Reads (crash_block read.0 read.1 ∷ []) reader.old reader.new) }
     ensures goes { OnRead result (Goes (perhaps pending.crash_block ∷ []) reader.old reader.new) }

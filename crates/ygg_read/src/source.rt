@@ -30,7 +30,6 @@ impl<'a> Reader<'a> {
     }
 
     /// Reads a right side that neither chooses nor calls.
-    #[tactic(auto, using(crate::proofs::ExpressionSources::plain_value))]
     fn plain_source(&mut self) -> Result<Option<Source>, NoMemory>
         ensures reads { IfRead result (λ s. Reads (source_in purpose.Plain s ∷ []) self.old self.new) }
         ensures goes { OnRead result (Goes (right_side purpose.Plain ∷ []) self.old self.new) }
@@ -44,7 +43,6 @@ impl<'a> Reader<'a> {
     }
 
     /// Reads a right side that may choose.
-    #[tactic(auto, using(crate::proofs::ExpressionSources::spec_value, crate::proofs::ExpressionSources::begins_choose, crate::proofs::ExpressionSources::reads_choose))]
     fn spec_source(&mut self) -> Result<Option<Source>, NoMemory>
         ensures reads { IfRead result (λ s. Reads (source_in purpose.Spec s ∷ []) self.old self.new) }
         ensures goes { OnRead result (Goes (right_side purpose.Spec ∷ []) self.old self.new) }

@@ -57,7 +57,6 @@ pub fn three(reader: &mut Reader<'_>) -> Option<(Numeral, Numeral, Numeral)>
 }
 
 /// Reads a type of those that may stand here. Where nothing is answered, the first token that can't come is the next one.
-#[tactic(auto, using(crate::proofs::Declared::begins_word, crate::proofs::Declared::begins_row, crate::proofs::ExpressionPhrases::joined, crate::proofs::Shapes::stopped_small))]
 pub fn type_text(reader: &mut Reader<'_>, sort: Sort) -> Option<TypeText>
     ensures reads { IfSome result (λ t. Reads (type_in sort t ∷ []) reader.old reader.new) }
     ensures goes { OnSome result (Goes (some_type sort ∷ []) reader.old reader.new) }
@@ -83,7 +82,6 @@ pub fn type_text(reader: &mut Reader<'_>, sort: Sort) -> Option<TypeText>
 }
 
 /// Reads a table, where neither a word nor a row comes.
-#[tactic(auto, using(crate::proofs::Declared::begins_table, crate::proofs::ExpressionPhrases::joined, crate::proofs::Shapes::stopped_all))]
 fn table(reader: &mut Reader<'_>) -> Option<TypeText>
     requires no_word { starts (mark.Keyword word.Word) reader.old ≡ false }
     requires no_row { starts (mark.Keyword word.Row) reader.old ≡ false }
@@ -118,7 +116,6 @@ pub fn declared(reader: &mut Reader<'_>, sort: Sort) -> Result<Option<Declared>,
 }
 
 /// Reads names with their types, or none, and the bracket after them.
-#[tactic(auto, using(crate::proofs::Declared::begins_none, crate::proofs::Shapes::some_declared, crate::proofs::ExpressionPhrases::joined))]
 pub fn parameters(reader: &mut Reader<'_>, sort: Sort) -> Result<Option<Items<Declared>>, NoMemory>
     ensures reads { IfRead result (λ ds. Reads (any_declared sort ds ∷ symbol sign.RoundClose ∷ []) reader.old reader.new) }
     ensures goes { OnRead result (Goes (rest_of_declared sort ∷ []) reader.old reader.new) }

@@ -1,11 +1,21 @@
-use Rattle.std.proofs.Common.{◌∷◌, ◌∙◌, ap}
+use Rattle.std.proofs.Common.{◌∷◌, ◌∙◌, sym, ap}
 use Rattle.ygg_syntax.specs.Reading.{in_turn}
 use Rattle.ygg_syntax.specs.Files.{crash_block}
 use Rattle.ygg_syntax.specs.Pending.{perhaps, outcome}
 use Rattle.ygg_syntax.specs.Pending as pending
 use Rattle.ygg_read.proofs.ClaimParts.{begins_perhaps}
-use Rattle.ygg_read.proofs.Files.{reads_crash}
+use Rattle.ygg_read.proofs.Files.{reads_crash, reads_no_crash_block}
+use Rattle.ygg_read.proofs.Stopped.{left_out}
 use Rattle.ygg_read.proofs.layer.crash.Goals as goal
+
+pub returns-in_default-clause-reads : goal.returns-in_default-clause-reads
+returns-in_default-clause-reads c =
+    λ qs. reads_no_crash_block c.unwritten.result c.args.reader.now c.in_default.ensures.other c.unwritten.ensures qs
+    ∙ ap (in_turn qs) (sym c.in_default.ensures.left)
+
+pub returns-in_default-clause-goes : goal.returns-in_default-clause-goes
+returns-in_default-clause-goes c =
+    λ qs. left_out pending.crash_block c.args.reader.now c.in_default.ensures.other qs ∙ ap (outcome qs) (sym c.in_default.ensures.left)
 
 pub returns-in_default-2-clause-refused : goal.returns-in_default-2-clause-refused
 returns-in_default-2-clause-refused c =
