@@ -4,6 +4,7 @@ ghost use Rattle.std.specs.Prelude.{◌≡◌};
 ghost use Rattle.std.specs.Option.{option_copied};
 ghost use Rattle.ygg_eval.specs.Formulas.{formula_in};
 
+use ygg_syntax::lists;
 use ygg_syntax::tree::{Expr, Layer};
 
 /// Which expressions of a layer.
@@ -34,8 +35,8 @@ pub fn expression_of(layer: &Layer, formula: Formula) -> Option<&Expr>
     let number = formula.number as usize;
     match formula.which {
         Which::Relate => Some(&layer.relate),
-        Which::Always => layer.always.as_slice().get(number),
-        Which::Settled => layer.settled.as_slice().get(number),
-        Which::Maybe => layer.maybe.as_slice().get(number),
+        Which::Always => lists::expr::nth(&layer.always, number),
+        Which::Settled => lists::expr::nth(&layer.settled, number),
+        Which::Maybe => lists::expr::nth(&layer.maybe, number),
     }
 }

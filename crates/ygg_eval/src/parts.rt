@@ -5,6 +5,7 @@ ghost use Rattle.std.specs.Option.{option_copied};
 ghost use Rattle.ygg_eval.specs.Bodies.{block_in, variables_in, arguments_at, arguments_in};
 
 use crate::body::Part;
+use ygg_syntax::lists;
 use ygg_syntax::tree::{Block, Declared, Layer};
 
 /// The block of a layer that is meant, if there is one.
@@ -13,21 +14,21 @@ pub fn block_of(layer: &Layer, part: Part, number: u32) -> Option<&Block>
 {
     match part {
         Part::Start => Some(&layer.start),
-        Part::Spec => match layer.operations.get(number as usize) {
+        Part::Spec => match lists::operation::get(&layer.operations, number as usize) {
             Some(operation) => Some(&operation.spec),
             None => None,
         },
-        Part::OnCrash => match layer.operations.get(number as usize) {
+        Part::OnCrash => match lists::operation::get(&layer.operations, number as usize) {
             Some(operation) => operation.on_crash.as_ref(),
             None => None,
         },
         Part::Crash => Some(&layer.crash),
         Part::Format => Some(&layer.format),
-        Part::Impl => match layer.operations.get(number as usize) {
+        Part::Impl => match lists::operation::get(&layer.operations, number as usize) {
             Some(operation) => Some(&operation.implementation),
             None => None,
         },
-        Part::Tick => match layer.ticks.get(number as usize) {
+        Part::Tick => match lists::tick::get(&layer.ticks, number as usize) {
             Some(tick) => Some(&tick.body),
             None => None,
         },
@@ -40,8 +41,12 @@ pub fn variables_of(layer: &Layer, part: Part) -> &[Declared]
     ensures { result.now ≡ variables_in layer.now part }
 {
     match part {
-        Part::Start | Part::Spec | Part::OnCrash | Part::Crash => layer.state.as_slice(),
-        Part::Format | Part::Impl | Part::Tick | Part::Recover => layer.memory.as_slice(),
+        Part::Start | Part::Spec | Part::OnCrash | Part::Crash => lists::declared::as_slice(
+            &layer.state,
+        ),
+        Part::Format | Part::Impl | Part::Tick | Part::Recover => lists::declared::as_slice(
+            &layer.memory,
+        ),
     }
 }
 
@@ -49,8 +54,8 @@ pub fn variables_of(layer: &Layer, part: Part) -> &[Declared]
 fn arguments_at(layer: &Layer, number: u32) -> &[Declared]
     ensures { result.now ≡ arguments_at layer.now number }
 {
-    match layer.operations.get(number as usize) {
-        Some(operation) => operation.arguments.as_slice(),
+    match lists::operation::get(&layer.operations, number as usize) {
+        Some(operation) => lists::declared::as_slice(&operation.arguments),
         None => &[],
     }
 }

@@ -14,6 +14,7 @@ use std::alloc::Global;
 use ygg_base::DiskKind;
 use ygg_eval_expr::{Binding, CowValue, Evaluator, is_one, lend_values};
 use ygg_list::NoMemory;
+use ygg_syntax::lists;
 use ygg_syntax::tree::{DiskText, Layer};
 use ygg_value::{Value, Values};
 
@@ -72,8 +73,8 @@ fn name_own<'a, 'v>(
     ensures { OnOk result (env_of bindings.new.items ≡ env_of bindings.old.items ++ own_in layer.now which state.now memory.now) }
 {
     if sees_all(which) {
-        lend_values(bindings, layer.state.as_slice(), state)?;
-        lend_values(bindings, layer.memory.as_slice(), memory)?;
+        lend_values(bindings, lists::declared::as_slice(&layer.state), state)?;
+        lend_values(bindings, lists::declared::as_slice(&layer.memory), memory)?;
     }
     Ok(())
 }
@@ -95,7 +96,7 @@ fn name_low<'a, 'v>(
         return Ok(());
     }
     let below = &layers[place - 1];
-    lend_values(bindings, below.state.as_slice(), values)?;
+    lend_values(bindings, lists::declared::as_slice(&below.state), values)?;
     Ok(())
 }
 
@@ -113,7 +114,7 @@ pub fn holds(
     ensures { IfOk result (λ answer. Answers typed.now.file formula state.now memory.now low.now answer) }
 {
     let file = typed.file();
-    let layers = file.layers.as_slice();
+    let layers = lists::layer::as_slice(&file.layers);
     let place = formula.layer as usize;
     let layer = &layers[place];
     let Some(expression) = expression_of(layer, formula) else {
@@ -131,7 +132,7 @@ pub fn holds(
     name_low(&mut below, &file.disk, layers, place, low.as_slice())?;
     let evaluator = Evaluator::new(
         alloc,
-        file.defs.as_slice(),
+        lists::def::as_slice(&file.defs),
         own.as_slice(),
         below.as_slice(),
     );

@@ -17,6 +17,7 @@ use crate::{Body, Lower, Stop, block_of};
 use std::alloc::Global;
 use ygg_eval_expr::{Binding, Power};
 use ygg_list::NoMemory;
+use ygg_syntax::lists;
 use ygg_syntax::tree::Block;
 use ygg_type::Typed;
 use ygg_value::{Value, Values};
@@ -57,7 +58,7 @@ pub fn run_body<W: Lower>(
     ensures serves { StillServes W.means typed.now.file body.layer result (record { machine = lower.old; power = power.old })
         (record { machine = lower.new; power = power.new }) }
 {
-    let Some(layer) = typed.file().layers.get(body.layer as usize) else {
+    let Some(layer) = lists::layer::get(&typed.file().layers, body.layer as usize) else {
         unreachable!();
     };
     let Some(block) = block_of(layer, body.part, body.number) else {
@@ -93,7 +94,12 @@ impl<'a> Runner<'a> {
     {
         let left = calls_before(self.stop);
         let mut frame = Frame { names, left };
-        let flow = self.statements(block.statements.as_slice(), &mut frame, lower, power)?;
+        let flow = self.statements(
+            lists::stmt::as_slice(&block.statements),
+            &mut frame,
+            lower,
+            power,
+        )?;
         let Frame { names, left } = frame;
         match flow {
             Flow::Goes(()) => self.finish(&block.answer, names, count, left, state, lower, power),

@@ -6,6 +6,7 @@ ghost use Rattle.ygg_eval.specs.Running.{runs_in};
 
 use crate::shapes::values_fit;
 use crate::{Body, Typed, arguments_of, block_of, variables_of};
+use ygg_syntax::lists;
 use ygg_syntax::tree::Layer;
 use ygg_value::Values;
 
@@ -26,7 +27,7 @@ fn runs_in(layer: &Layer, body: Body, args: &Values, state: &Values) -> bool
 pub fn is_runnable(typed: &Typed, body: Body, args: &Values, state: &Values) -> bool
     ensures { IsTrue result ↔ IsRunnable typed.now.file body args.now state.now }
 {
-    match typed.file().layers.get(body.layer as usize) {
+    match lists::layer::get(&typed.file().layers, body.layer as usize) {
         Some(layer) => runs_in(layer, body, args, state),
         None => false,
     }

@@ -17,6 +17,7 @@ use std::alloc::Global;
 use ygg_base::Text;
 use ygg_eval_expr::{Binding, Evaluator, Power, Turn, digit, is_one, word_in};
 use ygg_list::NoMemory;
+use ygg_syntax::lists;
 use ygg_syntax::tree::{Expr, Index, Name, Source};
 use ygg_type::Typed;
 use ygg_value::{Value, Values, Word};
@@ -36,7 +37,7 @@ impl<'a> Runner<'a> {
         requires { CanEvaluate (known_in self.now.typed.now.file (env_of names.now)) e.now }
         ensures { IfOk result (λ v. v ≡ eval_in self.now.typed.now.file e.now (env_of names.now)) }
     {
-        let defs = self.typed.file().defs.as_slice();
+        let defs = lists::def::as_slice(&self.typed.file().defs);
         // Nothing is seen behind `low`.
         let low = &names[..0];
         let evaluator = Evaluator::new(self.alloc, defs, names, low);
@@ -182,7 +183,7 @@ impl<'a> Runner<'a> {
                 Ok(Flow::Goes(digit(pick)))
             }
             Source::Call(_, f, es) => {
-                value_result(self.call(f, es.as_slice(), names, left, lower, power))
+                value_result(self.call(f, lists::expr::as_slice(es), names, left, lower, power))
             }
         }
     }

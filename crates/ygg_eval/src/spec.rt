@@ -15,6 +15,7 @@ use crate::silent::Silent;
 use crate::{Body, Ended, Part, Power, Turn, Typed, run_body};
 use std::alloc::Global;
 use ygg_list::{NoMemory, Sequence};
+use ygg_syntax::lists;
 use ygg_value::{Value, Values};
 
 /// Runs a block of a specification wholly, and gives its answer. Its only error is out of memory.
@@ -71,8 +72,10 @@ fn has_on_crash(typed: &Typed, place: u32, op: u32) -> bool
     requires operation { (l : Layer) → slice_get typed.now.file.layers place ≡ Some l → op < length l.operations }
     ensures { (l : Layer) (o : Operation) → slice_get typed.now.file.layers place ≡ Some l → slice_get l.operations op ≡ Some o → result ≡ is_some o.on_crash }
 {
-    let layer = &typed.file().layers.as_slice()[place as usize];
-    layer.operations.as_slice()[op as usize].on_crash.is_some()
+    let layer = &lists::layer::as_slice(&typed.file().layers)[place as usize];
+    lists::operation::as_slice(&layer.operations)[op as usize]
+        .on_crash
+        .is_some()
 }
 
 /// What an operation leaves that power cuts, before the `crash` block: what its `on crash` block leaves, or, where it has none, what its

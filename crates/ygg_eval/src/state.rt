@@ -8,6 +8,7 @@ ghost use Rattle.ygg_eval.specs.Layers.{variables_at};
 use crate::Typed;
 use crate::shapes::{fits, values_fit};
 use ygg_base::DiskKind;
+use ygg_syntax::lists;
 use ygg_syntax::tree::{DiskText, TypeText};
 use ygg_value::{Value, Values};
 
@@ -33,8 +34,8 @@ pub fn are_values_of(typed: &Typed, number: u32, values: &Values) -> bool
     if number == 0 {
         return are_tables(file.disk, values.as_slice());
     }
-    match file.layers.get((number - 1) as usize) {
-        Some(layer) => values_fit(layer.state.as_slice(), values.as_slice()),
+    match lists::layer::get(&file.layers, (number - 1) as usize) {
+        Some(layer) => values_fit(lists::declared::as_slice(&layer.state), values.as_slice()),
         None => false,
     }
 }

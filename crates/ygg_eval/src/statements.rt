@@ -30,6 +30,7 @@ use crate::names::write_name;
 use crate::runner::Runner;
 use ygg_eval_expr::{Binding, CowValue, Power};
 use ygg_list::NoMemory;
+use ygg_syntax::lists;
 use ygg_syntax::tree::{Block, Expr, Index, Name, Numeral, Source, Stmt};
 use ygg_value::{Value, Word};
 
@@ -152,7 +153,14 @@ impl<'a> Runner<'a> {
         match s {
             Stmt::Let(x, from) => self.bound(x, from, frame, lower, power),
             Stmt::Assign(x, indices, from) => {
-                self.assigned(x, indices.as_slice(), from, frame, lower, power)
+                self.assigned(
+                    x,
+                    lists::index::as_slice(indices),
+                    from,
+                    frame,
+                    lower,
+                    power,
+                )
             }
             Stmt::If(test, first, second) => {
                 if self.test(test, frame.names.as_slice())? {
@@ -162,7 +170,7 @@ impl<'a> Runner<'a> {
                 }
             }
             Stmt::For(x, w, n, each) => self.turns(x, *w, *n, each, frame, lower, power),
-            Stmt::Call(f, es) => self.called(f, es.as_slice(), frame, lower, power),
+            Stmt::Call(f, es) => self.called(f, lists::expr::as_slice(es), frame, lower, power),
         }
     }
 
@@ -204,7 +212,7 @@ impl<'a> Runner<'a> {
             (stands lower.old power.old) frame.old.left result (stands lower.new power.new) frame.new.left }
     {
         let outside = frame.names.len();
-        let flow = self.statements(b.statements.as_slice(), frame, lower, power);
+        let flow = self.statements(lists::stmt::as_slice(&b.statements), frame, lower, power);
         frame.names.truncate(outside);
         flow
     }

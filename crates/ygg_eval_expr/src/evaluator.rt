@@ -14,6 +14,7 @@ use crate::held::{Binding, CowValue, value_of};
 use crate::made::{digit, operated, part, row, word_in};
 use std::alloc::Global;
 use ygg_list::NoMemory;
+use ygg_syntax::lists;
 use ygg_syntax::tree::{Declared, Def, Expr, Name, Numeral, Quantifier};
 use ygg_value::{Value, Word, not, resize};
 
@@ -61,51 +62,51 @@ impl<'a, 'n, 'v> Evaluator<'a, 'n, 'v> {
             Expr::Low(_, x) => Ok(value_of(self.low, &[], x.text.as_slice())),
             Expr::Variable(x) => Ok(value_of(self.own, self.numbers, x.text.as_slice())),
             Expr::Apply(f, arguments) => {
-                let arguments = self.values(arguments.as_slice())?;
+                let arguments = self.values(lists::expr::as_slice(arguments))?;
                 let value = self.called(f.text.as_slice(), arguments.as_slice())?;
                 Ok(CowValue::Made(value))
             }
             Expr::Binary(_, a, op, _, b) => {
-                let a = self.value(a.get())?;
-                let b = self.value(b.get())?;
+                let a = self.value(lists::expr::get(a))?;
+                let b = self.value(lists::expr::get(b))?;
                 Ok(CowValue::Made(operated(*op, a.value(), b.value())))
             }
             Expr::Not(_, a) => {
-                let a = self.word(a.get())?;
+                let a = self.word(lists::expr::get(a))?;
                 Ok(CowValue::Made(Value::Word(not(a))))
             }
             Expr::At(whole, _, i) => {
-                let whole = self.value(whole.get())?;
-                let i = self.word(i.get())?;
+                let whole = self.value(lists::expr::get(whole))?;
+                let i = self.word(lists::expr::get(i))?;
                 let part = part(self.alloc, whole.value(), i)?;
                 Ok(CowValue::Made(part))
             }
             Expr::Pick(_, test, a, b) => {
-                let test = self.word(test.get())?;
+                let test = self.word(lists::expr::get(test))?;
                 if test.bits == 1 {
-                    let a = self.value(a.get())?;
+                    let a = self.value(lists::expr::get(a))?;
                     return Ok(a);
                 }
-                let b = self.value(b.get())?;
+                let b = self.value(lists::expr::get(b))?;
                 Ok(b)
             }
             Expr::Resize(_, a, w) => {
-                let a = self.word(a.get())?;
+                let a = self.word(lists::expr::get(a))?;
                 Ok(CowValue::Made(Value::Word(resize(a, w.value as u8))))
             }
             Expr::Fill(_, m, a) => {
-                let a = self.word(a.get())?;
+                let a = self.word(lists::expr::get(a))?;
                 let words = vec![in self.alloc; a; m.value as usize]?;
                 let row = row(self.alloc, words.as_slice())?;
                 Ok(CowValue::Made(Value::Row(row)))
             }
             Expr::Row(_, parts) => {
-                let words = self.words(parts.as_slice())?;
+                let words = self.words(lists::expr::as_slice(parts))?;
                 let row = row(self.alloc, words.as_slice())?;
                 Ok(CowValue::Made(Value::Row(row)))
             }
             Expr::Quantified(_, which, x, w, n, e) => {
-                let holds = self.quantified(*which, x, *w, *n, e.get())?;
+                let holds = self.quantified(*which, x, *w, *n, lists::expr::get(e))?;
                 Ok(CowValue::Made(digit(holds)))
             }
         }
@@ -158,7 +159,7 @@ impl<'a, 'n, 'v> Evaluator<'a, 'n, 'v> {
         match definition(self.defs, name) {
             Some(place) => {
                 let def = &self.defs[place];
-                let own = bound(self.alloc, def.parameters.as_slice(), args)?;
+                let own = bound(self.alloc, lists::declared::as_slice(&def.parameters), args)?;
                 let inner = Evaluator::new(self.alloc, &self.defs[..place], own.as_slice(), &[]);
                 let value = inner.value(&def.body)?;
                 let value = value.into_value(self.alloc)?;

@@ -17,6 +17,7 @@ use std::alloc::Global;
 use ygg_base::Bits;
 use ygg_eval::{Body, Typed, block_of};
 use ygg_list::NoMemory;
+use ygg_syntax::lists;
 use ygg_value::{Value, Values};
 
 /// What a run by place comes to: its answer, the values of the state below after it, the picks that it takes, from the front, and where power
@@ -80,7 +81,7 @@ fn places(machine: &BelowPlaces<'_>, body: Body) -> Result<u64, NoMemory>
     ensures { IfOk result (λ n. (l : Layer) (b : Block) → IsBlock machine.now.typed.now.file body l b →
         n ≡ places_on (below_at machine.now.typed.now.file machine.now.number) b) }
 {
-    let Some(layer) = machine.typed.file().layers.get(body.layer as usize) else {
+    let Some(layer) = lists::layer::get(&machine.typed.file().layers, body.layer as usize) else {
         unreachable!();
     };
     let Some(block) = block_of(layer, body.part, body.number) else {

@@ -15,6 +15,7 @@ use std::alloc::Global;
 use ygg_base::Bits;
 use ygg_eval::{Body, Typed, block_of};
 use ygg_list::NoMemory;
+use ygg_syntax::lists;
 use ygg_value::{Value, Values};
 
 /// Runs a block of a layer's specification to its end, each choice taking the bit of its place, and gives its answer. The picks that it takes
@@ -45,7 +46,7 @@ pub fn choices_room(typed: &Typed, body: Body) -> Result<u64, NoMemory>
     requires there { (l : Layer) × (b : Block) × IsBlock typed.now.file body l b }
     ensures room { IfOk result (λ n. (l : Layer) (b : Block) → IsBlock typed.now.file body l b → n ≡ room_of (λ f. 1) b) }
 {
-    let Some(layer) = typed.file().layers.get(body.layer as usize) else {
+    let Some(layer) = lists::layer::get(&typed.file().layers, body.layer as usize) else {
         unreachable!();
     };
     let Some(block) = block_of(layer, body.part, body.number) else {

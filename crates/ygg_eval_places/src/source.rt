@@ -13,6 +13,7 @@ use crate::unrolled::{add, source_room};
 use crate::walker::Walker;
 use ygg_eval::{Binding, digit};
 use ygg_list::NoMemory;
+use ygg_syntax::lists;
 use ygg_syntax::tree::Source;
 use ygg_value::Value;
 
@@ -60,7 +61,7 @@ impl<'a, W: Places> Walker<'a, W> {
             Source::Value(e) => self.runner.value(e, names),
             Source::Choose(_) => self.ask(place, Question::Choice, state),
             Source::Call(_, f, es) => {
-                let args = self.runner.values(es.as_slice(), names)?;
+                let args = self.runner.values(lists::expr::as_slice(es), names)?;
                 self.ask(place, Question::Call(&f.text, &args), state)
             }
         }

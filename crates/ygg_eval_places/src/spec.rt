@@ -19,6 +19,7 @@ use std::alloc::Global;
 use ygg_base::{Bits, Text};
 use ygg_eval::{Body, Part, Typed, block_of, place_of};
 use ygg_list::NoMemory;
+use ygg_syntax::lists;
 use ygg_value::{Value, Values};
 
 /// A whole call at a place: the operation's `spec` block is run, whose places begin at that of the call. Its only error is out of memory,
@@ -100,7 +101,7 @@ fn has_block(typed: &Typed, body: Body) -> bool
     requires { body.layer < length typed.now.file.layers }
     ensures { (l : Layer) → slice_get typed.now.file.layers body.layer ≡ Some l → result ≡ is_some (block_in l body.part body.number) }
 {
-    let layer = &typed.file().layers.as_slice()[body.layer as usize];
+    let layer = &lists::layer::as_slice(&typed.file().layers)[body.layer as usize];
     block_of(layer, body.part, body.number).is_some()
 }
 

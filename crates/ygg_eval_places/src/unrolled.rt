@@ -6,6 +6,7 @@ ghost use Rattle.ygg_syntax.specs.declared.tree.Stmt.TheFolds.{fold-Stmt};
 
 use crate::places::Places;
 use ygg_list::NoMemory;
+use ygg_syntax::lists;
 use ygg_syntax::tree::{Block, Source, Stmt};
 
 /// How many places the calls and choices of a block have on a machine. Its only error is out of memory.
@@ -14,7 +15,7 @@ pub fn room<W: Places>(machine: &W, b: &Block) -> Result<u64, NoMemory>
     requires serves { (W.means machine.now).Serves }
     ensures room { IfOk result (λ n. n ≡ room_of (W.means machine.now).space b.now) }
 {
-    rooms(machine, b.statements.as_slice())
+    rooms(machine, lists::stmt::as_slice(&b.statements))
 }
 
 /// Those of statements.

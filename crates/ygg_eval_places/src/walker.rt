@@ -12,6 +12,7 @@ use crate::places::{Places, Question};
 use crate::unrolled::{add, rooms_after};
 use ygg_eval::{Binding, Runner, name_number, name_value};
 use ygg_list::NoMemory;
+use ygg_syntax::lists;
 use ygg_syntax::tree::{Block, Expr, Index, Name, Numeral, Source, Stmt};
 
 /// What stays the same while a block is run by place: what evaluates its expressions, and the machine that it runs on.
@@ -110,7 +111,14 @@ impl<'a, W: Places> Walker<'a, W> {
         match s {
             Stmt::Let(x, from) => self.bound(x, from, place, names, state),
             Stmt::Assign(x, indices, from) => {
-                self.assigned(x, indices.as_slice(), from, place, names, state)
+                self.assigned(
+                    x,
+                    lists::index::as_slice(indices),
+                    from,
+                    place,
+                    names,
+                    state,
+                )
             }
             Stmt::If(test, first, second) => {
                 if self.runner.test(test, names.as_slice())? {
@@ -122,7 +130,13 @@ impl<'a, W: Places> Walker<'a, W> {
                 }
             }
             Stmt::For(x, w, n, each) => self.turns(x, *w, *n, each, place, names, state),
-            Stmt::Call(f, es) => self.called(f, es.as_slice(), place, names.as_slice(), state),
+            Stmt::Call(f, es) => self.called(
+                f,
+                lists::expr::as_slice(es),
+                place,
+                names.as_slice(),
+                state,
+            ),
         }
     }
 
@@ -164,7 +178,7 @@ impl<'a, W: Places> Walker<'a, W> {
             ((W.means self.now.machine.now).state state.new)) }
     {
         let outside = names.len();
-        let end = self.statements(b.statements.as_slice(), place, names, state)?;
+        let end = self.statements(lists::stmt::as_slice(&b.statements), place, names, state)?;
         names.truncate(outside);
         Ok(end)
     }
@@ -214,7 +228,7 @@ impl<'a, W: Places> Walker<'a, W> {
             ≡ (direct_run (eval_in self.now.runner.typed.now.file) (W.means self.now.machine.now).space (W.means self.now.machine.now).handle b.now
             (env_of names.old.items) ((W.means self.now.machine.now).state state.old)).to) }
     {
-        self.statements(b.statements.as_slice(), 0, names, state)?;
+        self.statements(lists::stmt::as_slice(&b.statements), 0, names, state)?;
         Ok(())
     }
 }

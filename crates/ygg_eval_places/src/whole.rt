@@ -14,6 +14,7 @@ use crate::walker::Walker;
 use std::alloc::Global;
 use ygg_eval::{Binding, Body, Runner, Typed, block_of, give_back, names_of};
 use ygg_list::NoMemory;
+use ygg_syntax::lists;
 use ygg_syntax::tree::Block;
 use ygg_value::{Value, Values};
 
@@ -34,7 +35,7 @@ pub fn run_places<W: Places>(
     ensures walked { IfOk result (λ answer. BodyWalked (W.means machine.now) typed.now.file body args.now values.old ((W.means machine.now).state state.old)
         answer values.new ((W.means machine.now).state state.new)) }
 {
-    let Some(layer) = typed.file().layers.get(body.layer as usize) else {
+    let Some(layer) = lists::layer::get(&typed.file().layers, body.layer as usize) else {
         unreachable!();
     };
     let Some(block) = block_of(layer, body.part, body.number) else {

@@ -11,6 +11,7 @@ use std::alloc::Global;
 use std::marker::Model;
 use ygg_eval::{Body, Ended, Lower, Part, Power, Turn, Typed, run_body, zeros};
 use ygg_list::{NoMemory, Sequence};
+use ygg_syntax::lists;
 use ygg_syntax::tree::Declared;
 use ygg_value::Values;
 
@@ -39,8 +40,8 @@ impl<W: Lower + Drop> Model for Floor<W> {
 fn memory_of(typed: &Typed, place: u32) -> &[Declared]
     ensures { result.now ≡ memory_at typed.now.file place }
 {
-    match typed.file().layers.get(place as usize) {
-        Some(layer) => layer.memory.as_slice(),
+    match lists::layer::get(&typed.file().layers, place as usize) {
+        Some(layer) => lists::declared::as_slice(&layer.memory),
         None => &[],
     }
 }

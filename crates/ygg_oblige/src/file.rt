@@ -16,6 +16,7 @@ use ygg_base::{DiskKind, Text};
 use ygg_oblige_laws::{Bank, Book, NoMemory};
 use ygg_oblige_list::place_of;
 use ygg_oblige_parts::{Maker, SymBelow, SymLayer};
+use ygg_syntax::lists;
 use ygg_syntax::tree::{Declared, DiskText, File, Name, Place, TypeText};
 
 /// A table of the disk's size, as if it were declared. Its only error is out of memory.
@@ -66,9 +67,9 @@ fn obligations_over<'a, B: Book>(
     let mut low = tables;
     let mut below = SymBelow::Disk(file.disk);
     let mut number: u64 = 0;
-    for (i, layer) in file.layers.as_slice().iter().enumerate() {
+    for (i, layer) in lists::layer::as_slice(&file.layers).iter().enumerate() {
         let at = SymLayer {
-            defs: file.defs.as_slice(),
+            defs: lists::def::as_slice(&file.defs),
             layer,
             low,
         };
@@ -79,7 +80,7 @@ fn obligations_over<'a, B: Book>(
             below,
         };
         number = add_layer(&maker, bank, place_of(i)?, number, &mut all)?;
-        low = layer.state.as_slice();
+        low = lists::declared::as_slice(&layer.state);
         below = SymBelow::Layer(at);
     }
     Ok(all)

@@ -29,6 +29,7 @@ use crate::{numbers_of, term};
 use ygg_oblige_laws::{Bank, Book, NoMemory};
 use ygg_oblige_list::{Asked, SymObligation, asked_of, name_of};
 use ygg_oblige_parts::{Maker, SymStarting, words_in};
+use ygg_syntax::lists;
 
 /// What an obligation asks.
 fn kind_of(obligation: SymObligation<'_>) -> Kind
@@ -130,8 +131,8 @@ pub fn after_states<'a, B>(maker: &Maker<'a, B>, number: u64) -> Result<u64, NoM
     ensures { IfOk result (λ n. n ≡ number + state_words (closed maker.now.layer)) }
 {
     let layer = maker.layer;
-    let state = words_in(layer.layer.state.as_slice())?;
-    let memory = words_in(layer.layer.memory.as_slice())?;
+    let state = words_in(lists::declared::as_slice(&layer.layer.state))?;
+    let memory = words_in(lists::declared::as_slice(&layer.layer.memory))?;
     let low = words_in(layer.low)?;
     let Some(own) = state.checked_add(memory) else {
         return Err(NoMemory);

@@ -12,6 +12,7 @@ ghost use Rattle.ygg_oblige.specs.Numbering.{numbers_in};
 use ygg_oblige_list::{SymNumbers, SymObligation};
 use ygg_oblige_parts::{Maker, NoMemory, words_in};
 use ygg_sym::{failure_room, places};
+use ygg_syntax::lists;
 use ygg_syntax::tree::{Block, Declared, Layer};
 
 /// The arguments that an obligation speaks of.
@@ -20,7 +21,7 @@ pub fn arguments_of<'a>(obligation: SymObligation<'a>) -> &'a [Declared]
 {
     match obligation {
         SymObligation::Call(operation) | SymObligation::Cut(operation) => {
-            operation.arguments.as_slice()
+            lists::declared::as_slice(&operation.arguments)
         }
         _ => &[],
     }

@@ -37,6 +37,7 @@ use ygg_oblige_parts::{
     Bank, Book, Id, Maker, NoMemory, SymStarting, SymStep, SymValues, all_equal, fresh, join, zeros,
 };
 use ygg_sym::{SymBlock, SymCut, SymEnd, cut, lost, low_at_start, run};
+use ygg_syntax::lists;
 use ygg_value::Op;
 
 /// Whether the specification's step passes after a run that has ended so. Inputs of the bank from the given number on are single digits.
@@ -92,7 +93,12 @@ fn recovered<'a, B: Book>(
     ensures bank { IsBank bank.new }
 {
     let layer = maker.layer.layer;
-    let memory = zeros(maker.alloc, bank, maker.book, layer.memory.as_slice())?;
+    let memory = zeros(
+        maker.alloc,
+        bank,
+        maker.book,
+        lists::declared::as_slice(&layer.memory),
+    )?;
     let at = SymBlock {
         layer: maker.layer,
         below: maker.below,
@@ -283,7 +289,12 @@ fn recovery_cut<'a, B: Book>(
     ensures bank { IsBank bank.new }
 {
     let layer = maker.layer.layer;
-    let memory = zeros(maker.alloc, bank, maker.book, layer.memory.as_slice())?;
+    let memory = zeros(
+        maker.alloc,
+        bank,
+        maker.book,
+        lists::declared::as_slice(&layer.memory),
+    )?;
     let at = SymBlock {
         layer: maker.layer,
         below: maker.below,
@@ -497,7 +508,12 @@ fn formats<'a, B: Book>(
         maker.below,
         n.run,
     )?;
-    let memory = zeros(maker.alloc, bank, maker.book, layer.memory.as_slice())?;
+    let memory = zeros(
+        maker.alloc,
+        bank,
+        maker.book,
+        lists::declared::as_slice(&layer.memory),
+    )?;
     let at = SymBlock {
         layer: maker.layer,
         below: maker.below,

@@ -8,6 +8,7 @@ ghost use Rattle.ygg_oblige_list.specs.Listing.{AreNumbered, asked_in, calls_of,
 use crate::obligation::SymObligation;
 use std::alloc::Global;
 use ygg_list::NoMemory;
+use ygg_syntax::lists;
 use ygg_syntax::tree::Layer;
 
 /// An obligation, and the place of its operation or background step in the layer's list, else 0.
@@ -48,7 +49,10 @@ fn add_calls<'a>(list: &mut Vec<Asked<'a>>, layer: &'a Layer) -> Result<(), NoMe
     ensures asked { OnOk result (asked_in list.new.items ≡ asked_in list.old.items ++ calls_of layer.now.operations) }
     ensures numbered { OnOk result (AreNumbered layer.now list.new.items) }
 {
-    for (i, operation) in layer.operations.as_slice().iter().enumerate() {
+    for (i, operation) in lists::operation::as_slice(&layer.operations)
+        .iter()
+        .enumerate()
+    {
         let number = place_of(i)?;
         add(list, SymObligation::Call(operation), number)?;
         add(list, SymObligation::Cut(operation), number)?;
@@ -62,7 +66,7 @@ fn add_ticks<'a>(list: &mut Vec<Asked<'a>>, layer: &'a Layer) -> Result<(), NoMe
     ensures asked { OnOk result (asked_in list.new.items ≡ asked_in list.old.items ++ ticks_of layer.now.ticks) }
     ensures numbered { OnOk result (AreNumbered layer.now list.new.items) }
 {
-    for (i, tick) in layer.ticks.as_slice().iter().enumerate() {
+    for (i, tick) in lists::tick::as_slice(&layer.ticks).iter().enumerate() {
         let number = place_of(i)?;
         add(list, SymObligation::Tick(tick), number)?;
         add(list, SymObligation::CutTick(tick), number)?;

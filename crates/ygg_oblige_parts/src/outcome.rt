@@ -19,6 +19,7 @@ use ygg_oblige_list::SymObligation;
 use ygg_sym_spec::{
     Bank, Book, NoMemory, SpecDone, SymPicks, SymValues, block, crash, start, then_crash,
 };
+use ygg_syntax::lists;
 use ygg_syntax::tree::Operation;
 
 /// Variables without an answer.
@@ -55,7 +56,7 @@ impl<'a, B: Book> Maker<'a, B> {
         ensures bank { IsBank bank.new }
     {
         let layer = self.layer;
-        let names = operation.arguments.as_slice();
+        let names = lists::declared::as_slice(&operation.arguments);
         let values = args.as_slice();
         match &operation.on_crash {
             Some(b) => {
@@ -114,7 +115,7 @@ impl<'a, B: Book> Maker<'a, B> {
             SymObligation::Init => { start(self.alloc, bank, self.book, layer, first).map(left) }
             SymObligation::Call(operation) => {
                 let b = &operation.spec;
-                let names = operation.arguments.as_slice();
+                let names = lists::declared::as_slice(&operation.arguments);
                 block(
                     self.alloc,
                     bank,

@@ -32,6 +32,7 @@ use ygg_oblige_laws::{Replacements, facts, replace};
 use ygg_sym_spec::{
     Bank, Book, Id, NoMemory, SymBelow, SymBinding, SymEvaluator, SymLayer, SymValue, SymValues,
 };
+use ygg_syntax::lists;
 use ygg_value::Op;
 
 /// Variables of a specification, a memory, and a state below.
@@ -193,7 +194,7 @@ impl<'a, B: Book> Maker<'a, B> {
         let layer = self.layer.layer;
         let evaluator = SymEvaluator::new(self.alloc, self.layer.defs, own, low);
         let first = digit(bank, self.book, &evaluator, &layer.relate)?;
-        let always = layer.always.as_slice();
+        let always = lists::expr::as_slice(&layer.always);
         let rest = truths(self.alloc, bank, self.book, &evaluator, always)?;
         join(bank, self.book, Op::And, first, rest)
     }
@@ -220,9 +221,9 @@ impl<'a, B: Book> Maker<'a, B> {
         // the bank's nodes stand in order
         let _ = bank.len();
         let mut own = Vec::new(self.alloc);
-        let state = self.layer.layer.state.as_slice();
+        let state = lists::declared::as_slice(&self.layer.layer.state);
         add_names(self.alloc, &mut own, state, vars.as_slice())?;
-        let declared = self.layer.layer.memory.as_slice();
+        let declared = lists::declared::as_slice(&self.layer.layer.memory);
         add_names(self.alloc, &mut own, declared, memory.as_slice())?;
         let mut behind = Vec::new(self.alloc);
         add_names(self.alloc, &mut behind, self.layer.low, low.as_slice())?;
@@ -247,7 +248,7 @@ impl<'a, B: Book> Maker<'a, B> {
         let mut behind = Vec::new(self.alloc);
         add_names(self.alloc, &mut behind, self.layer.low, low.as_slice())?;
         let evaluator = SymEvaluator::new(self.alloc, self.layer.defs, &[], behind.as_slice());
-        let settled = self.layer.layer.settled.as_slice();
+        let settled = lists::expr::as_slice(&self.layer.layer.settled);
         truths(self.alloc, bank, self.book, &evaluator, settled)
     }
 
@@ -265,8 +266,8 @@ impl<'a, B: Book> Maker<'a, B> {
         ensures grows { Extends bank.old bank.new }
         ensures bank { IsBank bank.new }
     {
-        let state = self.layer.layer.state.as_slice();
-        let memory = self.layer.layer.memory.as_slice();
+        let state = lists::declared::as_slice(&self.layer.layer.state);
+        let memory = lists::declared::as_slice(&self.layer.layer.memory);
         let low = self.layer.low;
         let own = words_in(state)?;
         let more = words_in(memory)?;

@@ -23,6 +23,7 @@ use ygg_oblige::{Maker, SymBelow, SymLayer, after_states, numbers_of};
 use ygg_oblige_list::{Asked, asked_of, place_of};
 use ygg_oblige_schedule::Site;
 use ygg_rules::Book;
+use ygg_syntax::lists;
 use ygg_syntax::tree::{Declared, File};
 
 /// The obligation at a place in the list of a layer with a place, where the inputs of the layer's states are numbered on from a number. Its only error is
@@ -86,9 +87,9 @@ pub fn site_at<'a, B: Book>(
     let mut below = SymBelow::Disk(file.disk);
     let mut number: u64 = 0;
     let mut left = place;
-    for (i, layer) in file.layers.as_slice().iter().enumerate() {
+    for (i, layer) in lists::layer::as_slice(&file.layers).iter().enumerate() {
         let at = SymLayer {
-            defs: file.defs.as_slice(),
+            defs: lists::def::as_slice(&file.defs),
             layer,
             low,
         };
@@ -108,7 +109,7 @@ pub fn site_at<'a, B: Book>(
         }
         left -= count;
         number = after_layer(&maker, asked, number)?;
-        low = layer.state.as_slice();
+        low = lists::declared::as_slice(&layer.state);
         below = SymBelow::Layer(at);
     }
     unreachable!()

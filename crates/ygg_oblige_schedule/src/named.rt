@@ -45,6 +45,7 @@ use ygg_eval_places::{Fallen, Lost};
 use ygg_list::NoMemory;
 use ygg_oblige_list::{SymObligation, name_of};
 use ygg_replay::{Halt, Schedule};
+use ygg_syntax::lists;
 use ygg_syntax::tree::Declared;
 use ygg_value::Values;
 
@@ -326,12 +327,12 @@ impl<'a> EnvironmentReader<'a> {
         match self.site.obligation {
             SymObligation::Init => self.formatting(),
             SymObligation::Call(operation) => {
-                let args = self.arguments(operation.arguments.as_slice())?;
+                let args = self.arguments(lists::declared::as_slice(&operation.arguments))?;
                 let part = Part::Impl;
                 self.whole(FirstBlock { part, number }, args)
             }
             SymObligation::Cut(operation) => {
-                let args = self.arguments(operation.arguments.as_slice())?;
+                let args = self.arguments(lists::declared::as_slice(&operation.arguments))?;
                 let part = Part::Impl;
                 self.fallen(FirstBlock { part, number }, args)
             }

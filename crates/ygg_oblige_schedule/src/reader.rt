@@ -31,6 +31,7 @@ use ygg_eval::{Body, Part, Typed};
 use ygg_eval_places::{Choices, Fallen, Lost, PlacedBits, lose_fronts, run_fronts};
 use ygg_list::NoMemory;
 use ygg_oblige_given::{InputTable, further, words_in};
+use ygg_syntax::lists;
 use ygg_value::Values;
 
 /// An obligation of a file with the inputs that it has, and what these are.
@@ -80,8 +81,8 @@ impl<'a> EnvironmentReader<'a> {
         requires { IsHere self.now }
         ensures { IfOk result (λ from. from ≡ self.now.site.states + words_in self.now.site.layer.now.state + words_in self.now.site.layer.now.memory) }
     {
-        let state = words_in(self.site.layer.state.as_slice())?;
-        let memory = words_in(self.site.layer.memory.as_slice())?;
+        let state = words_in(lists::declared::as_slice(&self.site.layer.state))?;
+        let memory = words_in(lists::declared::as_slice(&self.site.layer.memory))?;
         let after_state = further(self.site.states, state)?;
         let from = further(after_state, memory)?;
         Ok(from)
@@ -96,7 +97,7 @@ impl<'a> EnvironmentReader<'a> {
         ensures is { IfOk result (λ state. bind self.now.site.layer.now.state state
             ≡ given_env (inputs_of self.now) self.now.site.states self.now.site.layer.now.state) }
     {
-        let declared = self.site.layer.state.as_slice();
+        let declared = lists::declared::as_slice(&self.site.layer.state);
         self.table.values(self.alloc, self.site.states, declared)
     }
 
@@ -108,7 +109,7 @@ impl<'a> EnvironmentReader<'a> {
         ensures is { IfOk result (λ memory. bind self.now.site.layer.now.memory memory
             ≡ given_env (inputs_of self.now) from self.now.site.layer.now.memory) }
     {
-        let declared = self.site.layer.memory.as_slice();
+        let declared = lists::declared::as_slice(&self.site.layer.memory);
         self.table.values(self.alloc, from, declared)
     }
 
@@ -118,7 +119,7 @@ impl<'a> EnvironmentReader<'a> {
         requires fit { IsTrue (stand_fits (layer_of self.now) (given_stand (inputs_of self.now) self.now.site.states (layer_of self.now))) }
         ensures { IfOk result (StandIs self.now) }
     {
-        let words = words_in(self.site.layer.state.as_slice())?;
+        let words = words_in(lists::declared::as_slice(&self.site.layer.state))?;
         let from = further(self.site.states, words)?;
         let state = self.state()?;
         let memory = self.memory(from)?;

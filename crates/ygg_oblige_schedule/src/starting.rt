@@ -9,6 +9,7 @@ ghost use Rattle.ygg_oblige_schedule.specs.Here.{below_of, low_env, IsHere, LowF
 use crate::reader::EnvironmentReader;
 use ygg_list::NoMemory;
 use ygg_replay::{ReplaySite, zeros};
+use ygg_syntax::lists;
 use ygg_value::Values;
 
 impl<'a> EnvironmentReader<'a> {
@@ -18,7 +19,10 @@ impl<'a> EnvironmentReader<'a> {
         ensures is { IfOk result (λ memory. bind self.now.site.layer.now.memory memory ≡ zeros_of self.now.site.layer.now.memory) }
         ensures fits { IfOk result (λ memory. IsTrue (values_fit self.now.site.layer.now.memory memory)) }
     {
-        zeros(self.alloc, self.site.layer.memory.as_slice())
+        zeros(
+            self.alloc,
+            lists::declared::as_slice(&self.site.layer.memory),
+        )
     }
 
     /// What the layer is specified over, as it starts. Its only error is out of memory.

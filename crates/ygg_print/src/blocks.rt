@@ -16,13 +16,14 @@ use crate::expressions::{bracketed, expression, expression_then, range};
 use crate::printer::Printer;
 use ygg_base::{Keyword, Symbol};
 use ygg_list::NoMemory;
+use ygg_syntax::lists;
 use ygg_syntax::tree::{Block, Expr, Index, Name, Source, Stmt};
 
 /// Whether nothing stands between the braces.
 pub fn is_empty(block: &Block) -> bool
     ensures { result ≡ (block_printed block.now).empty }
 {
-    match block.statements.as_slice().first() {
+    match lists::stmt::as_slice(&block.statements).first() {
         Some(_) => false,
         None => match &block.answer {
             Some(_) => false,
@@ -46,7 +47,7 @@ fn source(printer: &mut Printer, from: &Source) -> Result<(), NoMemory>
     match from {
         Source::Value(e) => expression(printer, e),
         Source::Choose(_) => printer.keyword(Keyword::Choose),
-        Source::Call(_, name, arguments) => call(printer, name, arguments.as_slice()),
+        Source::Call(_, name, arguments) => call(printer, name, lists::expr::as_slice(arguments)),
     }
 }
 
@@ -89,7 +90,7 @@ pub fn block(printer: &mut Printer, block: &Block) -> Result<(), NoMemory>
     ensures { OnOk result (printer.new ≡ printer.old ++ (block_printed block.now).marks) }
 {
     printer.symbol(Symbol::BraceOpen)?;
-    statements(printer, block.statements.as_slice())?;
+    statements(printer, lists::stmt::as_slice(&block.statements))?;
     answer(printer, &block.answer)?;
     printer.symbol(Symbol::BraceClose)
 }
@@ -129,7 +130,7 @@ fn statement(printer: &mut Printer, statement: &Stmt) -> Result<(), NoMemory>
         }
         Stmt::Assign(name, places, from) => {
             printer.name(name)?;
-            indices(printer, places.as_slice())?;
+            indices(printer, lists::index::as_slice(places))?;
             assigned(printer, from)
         }
         Stmt::If(test, first, second) => {
@@ -144,7 +145,7 @@ fn statement(printer: &mut Printer, statement: &Stmt) -> Result<(), NoMemory>
             block(printer, each)
         }
         Stmt::Call(name, arguments) => {
-            call(printer, name, arguments.as_slice())?;
+            call(printer, name, lists::expr::as_slice(arguments))?;
             printer.symbol(Symbol::Semicolon)
         }
     }

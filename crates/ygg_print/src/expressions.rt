@@ -8,6 +8,7 @@ ghost use Rattle.ygg_print.specs.Printed.{printed, bracketed, list_printed, more
 use crate::printer::{Plain, Printer};
 use ygg_base::{Keyword, Symbol};
 use ygg_list::NoMemory;
+use ygg_syntax::lists;
 use ygg_syntax::tree::{Expr, Name, Quantifier};
 use ygg_value::Op;
 
@@ -118,30 +119,30 @@ pub fn expression(printer: &mut Printer, e: &Expr) -> Result<(), NoMemory>
         Expr::Variable(name) => printer.name(name),
         Expr::Apply(name, arguments) => {
             printer.name(name)?;
-            bracketed(printer, arguments.as_slice())
+            bracketed(printer, lists::expr::as_slice(arguments))
         }
         Expr::Binary(_, left, op, _, right) => {
             printer.symbol(Symbol::RoundOpen)?;
-            expression_then(printer, left.get(), operator(*op))?;
-            expression_then(printer, right.get(), Symbol::RoundClose)
+            expression_then(printer, lists::expr::get(left), operator(*op))?;
+            expression_then(printer, lists::expr::get(right), Symbol::RoundClose)
         }
         Expr::Not(_, part) => {
             printer.symbol(Symbol::Tilde)?;
-            expression(printer, part.get())
+            expression(printer, lists::expr::get(part))
         }
         Expr::At(whole, _, index) => {
-            expression_then(printer, whole.get(), Symbol::SquareOpen)?;
-            expression_then(printer, index.get(), Symbol::SquareClose)
+            expression_then(printer, lists::expr::get(whole), Symbol::SquareOpen)?;
+            expression_then(printer, lists::expr::get(index), Symbol::SquareClose)
         }
         Expr::Pick(_, test, left, right) => {
             opened(printer, Keyword::Pick)?;
-            expression_then(printer, test.get(), Symbol::Comma)?;
-            expression_then(printer, left.get(), Symbol::Comma)?;
-            expression_then(printer, right.get(), Symbol::RoundClose)
+            expression_then(printer, lists::expr::get(test), Symbol::Comma)?;
+            expression_then(printer, lists::expr::get(left), Symbol::Comma)?;
+            expression_then(printer, lists::expr::get(right), Symbol::RoundClose)
         }
         Expr::Resize(_, part, width) => {
             opened(printer, Keyword::Resize)?;
-            expression_then(printer, part.get(), Symbol::Comma)?;
+            expression_then(printer, lists::expr::get(part), Symbol::Comma)?;
             printer.tokens(&[
                 Plain::Number(width.value),
                 Plain::Symbol(Symbol::RoundClose),
@@ -150,17 +151,17 @@ pub fn expression(printer: &mut Printer, e: &Expr) -> Result<(), NoMemory>
         Expr::Fill(_, count, part) => {
             opened(printer, Keyword::Fill)?;
             printer.tokens(&[Plain::Number(count.value), Plain::Symbol(Symbol::Comma)])?;
-            expression_then(printer, part.get(), Symbol::RoundClose)
+            expression_then(printer, lists::expr::get(part), Symbol::RoundClose)
         }
         Expr::Row(_, parts) => {
             printer.keyword(Keyword::Row)?;
-            bracketed(printer, parts.as_slice())
+            bracketed(printer, lists::expr::as_slice(parts))
         }
         Expr::Quantified(_, which, name, width, bound, test) => {
             opened(printer, quantifier(*which))?;
             range(printer, name, width.value, bound.value)?;
             printer.symbol(Symbol::Comma)?;
-            expression_then(printer, test.get(), Symbol::RoundClose)
+            expression_then(printer, lists::expr::get(test), Symbol::RoundClose)
         }
     }
 }

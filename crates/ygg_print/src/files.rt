@@ -22,6 +22,7 @@ use crate::expressions::expression_then;
 use crate::printer::{Plain, Printer};
 use ygg_base::{DiskKind, Keyword, Symbol};
 use ygg_list::NoMemory;
+use ygg_syntax::lists;
 use ygg_syntax::tree::{Block, Declared, Def, DiskText, Expr, Layer, Name, Tick, TypeText};
 
 /// A type.
@@ -139,7 +140,12 @@ fn definition(printer: &mut Printer, def: &Def) -> Result<(), NoMemory>
 fn signature(printer: &mut Printer, def: &Def) -> Result<(), NoMemory>
     ensures { OnOk result (printer.new ≡ printer.old ++ signature_printed def.now) }
 {
-    titled_list(printer, Keyword::Def, &def.name, def.parameters.as_slice())?;
+    titled_list(
+        printer,
+        Keyword::Def,
+        &def.name,
+        lists::declared::as_slice(&def.parameters),
+    )?;
     printer.symbol(Symbol::Arrow)?;
     shape(printer, def.shape)
 }
@@ -186,9 +192,17 @@ pub fn claims(printer: &mut Printer, layer: &Layer) -> Result<(), NoMemory>
     ensures { OnOk result (printer.new ≡ printer.old ++ claims_printed layer.now) }
 {
     claim(printer, Keyword::Relate, &layer.relate)?;
-    claims_after(printer, Keyword::Always, layer.always.as_slice())?;
-    claims_after(printer, Keyword::Settled, layer.settled.as_slice())?;
-    claims_after(printer, Keyword::Maybe, layer.maybe.as_slice())
+    claims_after(
+        printer,
+        Keyword::Always,
+        lists::expr::as_slice(&layer.always),
+    )?;
+    claims_after(
+        printer,
+        Keyword::Settled,
+        lists::expr::as_slice(&layer.settled),
+    )?;
+    claims_after(printer, Keyword::Maybe, lists::expr::as_slice(&layer.maybe))
 }
 
 /// A block that may be left out, after its keyword. An empty one is left out.

@@ -8,6 +8,7 @@ use crate::printer::{Plain, Printer};
 use std::alloc::Global;
 use ygg_base::{Keyword, Mark, Symbol};
 use ygg_list::{NoMemory, Sequence};
+use ygg_syntax::lists;
 use ygg_syntax::tree::{DiskText, File, Layer};
 
 /// The marks of a layer file's one canonical text. Its only error is out of memory.
@@ -24,8 +25,8 @@ fn whole(printer: &mut Printer, file: &File) -> Result<(), NoMemory>
     ensures { OnOk result (printer.new ≡ printer.old ++ file_printed file.now) }
 {
     head(printer, &file.disk)?;
-    definitions(printer, file.defs.as_slice())?;
-    layers(printer, file.layers.as_slice())
+    definitions(printer, lists::def::as_slice(&file.defs))?;
+    layers(printer, lists::layer::as_slice(&file.layers))
 }
 
 /// The version of the language and the disk.
@@ -67,9 +68,17 @@ fn layer(printer: &mut Printer, one: &Layer) -> Result<(), NoMemory>
 fn variables_of(printer: &mut Printer, layer: &Layer) -> Result<(), NoMemory>
     ensures { OnOk result (printer.new ≡ printer.old ++ variables_printed layer.now) }
 {
-    variables(printer, Keyword::State, layer.state.as_slice())?;
+    variables(
+        printer,
+        Keyword::State,
+        lists::declared::as_slice(&layer.state),
+    )?;
     optional(printer, Keyword::Start, &layer.start)?;
-    variables(printer, Keyword::Memory, layer.memory.as_slice())?;
+    variables(
+        printer,
+        Keyword::Memory,
+        lists::declared::as_slice(&layer.memory),
+    )?;
     optional(printer, Keyword::Format, &layer.format)
 }
 
@@ -77,8 +86,8 @@ fn variables_of(printer: &mut Printer, layer: &Layer) -> Result<(), NoMemory>
 fn steps(printer: &mut Printer, layer: &Layer) -> Result<(), NoMemory>
     ensures { OnOk result (printer.new ≡ printer.old ++ steps_printed layer.now) }
 {
-    operations(printer, layer.operations.as_slice())?;
+    operations(printer, lists::operation::as_slice(&layer.operations))?;
     optional(printer, Keyword::Crash, &layer.crash)?;
-    ticks(printer, layer.ticks.as_slice())?;
+    ticks(printer, lists::tick::as_slice(&layer.ticks))?;
     optional(printer, Keyword::Recover, &layer.recover)
 }

@@ -9,6 +9,7 @@ use crate::files::{shape, titled_list};
 use crate::printer::{Plain, Printer};
 use ygg_base::{Keyword, Symbol};
 use ygg_list::NoMemory;
+use ygg_syntax::lists;
 use ygg_syntax::tree::{Block, Operation, TypeText};
 
 /// The block for a crash, where one is written.
@@ -59,7 +60,12 @@ fn operation(printer: &mut Printer, one: &Operation) -> Result<(), NoMemory>
 fn heading(printer: &mut Printer, one: &Operation) -> Result<(), NoMemory>
     ensures { OnOk result (printer.new ≡ printer.old ++ heading_printed one.now) }
 {
-    titled_list(printer, Keyword::Op, &one.name, one.arguments.as_slice())?;
+    titled_list(
+        printer,
+        Keyword::Op,
+        &one.name,
+        lists::declared::as_slice(&one.arguments),
+    )?;
     answer_type(printer, one.answer)
 }
 

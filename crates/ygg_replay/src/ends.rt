@@ -34,6 +34,7 @@ use ygg_base::{Bits, DiskKind};
 use ygg_eval::{Part, SpecLower, spec_lower, zeros};
 use ygg_list::{NoMemory, Sequence};
 use ygg_sched::{CaseKind, Schedule};
+use ygg_syntax::lists;
 use ygg_value::{Shape, Value, Values, same, zero};
 
 /// How the runs of an obligation have ended: with an answer, if they give one, in a memory over a machine below, and on the side the test in
@@ -127,7 +128,7 @@ impl<'a> ReplaySite<'a> {
             alloc: self.alloc,
             typed: self.typed,
             place,
-            layer: &self.typed.file().layers.as_slice()[place as usize],
+            layer: &lists::layer::as_slice(&self.typed.file().layers)[place as usize],
         };
         below.start()
     }
@@ -140,7 +141,7 @@ impl<'a> ReplaySite<'a> {
     {
         let low = self.low_at_start()?;
         let mut lower = spec_lower(self.alloc, self.typed, self.place, low)?;
-        let mut memory = zeros(self.alloc, self.layer.memory.as_slice())?;
+        let mut memory = zeros(self.alloc, lists::declared::as_slice(&self.layer.memory))?;
         let none = Sequence::new(self.alloc);
         let picks = &schedule.picks;
         let answer = self.run(Part::Format, 0, &none, &mut memory, &mut lower, picks)?;
@@ -220,7 +221,7 @@ impl<'a> ReplaySite<'a> {
         ensures side { IfOk result (λ e. e.side ≡ side) }
         ensures fits { IfOk result (EndFits self.now) }
     {
-        let mut memory = zeros(self.alloc, self.layer.memory.as_slice())?;
+        let mut memory = zeros(self.alloc, lists::declared::as_slice(&self.layer.memory))?;
         let none = Sequence::new(self.alloc);
         let answer = self.run(Part::Recover, 0, &none, &mut memory, &mut lower, picks)?;
         Ok(End {
@@ -287,7 +288,7 @@ impl<'a> ReplaySite<'a> {
         requires low { LowFits self.now schedule.now.low }
         ensures { IfOk result (ReachedOrNot self.now Again schedule.now) }
     {
-        let memory = zeros(self.alloc, self.layer.memory.as_slice())?;
+        let memory = zeros(self.alloc, lists::declared::as_slice(&self.layer.memory))?;
         let none = Sequence::new(self.alloc);
         let Some(fallen) = self.cut_short(Part::Recover, 0, &none, memory, schedule)? else {
             return Ok(None);

@@ -15,6 +15,7 @@ use ygg_base::Bits;
 use ygg_list::NoMemory;
 use ygg_replay_search::{Test, first_passing};
 use ygg_sched::{Case, CaseKind, choices};
+use ygg_syntax::lists;
 use ygg_syntax::tree::{Block, Operation};
 
 /// From how many choices on a block has more than the count tells.
@@ -72,9 +73,13 @@ impl<'a> ReplaySite<'a> {
     {
         match case.kind {
             CaseKind::Init | CaseKind::Tick | CaseKind::Again => Ok(0),
-            CaseKind::Call => count(&self.layer.operations.as_slice()[case.number as usize].spec),
+            CaseKind::Call => count(
+                &lists::operation::as_slice(&self.layer.operations)[case.number as usize].spec,
+            ),
             CaseKind::Cut => {
-                self.most_in_fall(&self.layer.operations.as_slice()[case.number as usize])
+                self.most_in_fall(
+                    &lists::operation::as_slice(&self.layer.operations)[case.number as usize],
+                )
             }
             CaseKind::CutTick | CaseKind::Idle => count(&self.layer.crash),
         }

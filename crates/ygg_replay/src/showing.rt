@@ -18,6 +18,7 @@ use crate::site::ReplaySite;
 use std::alloc::Global;
 use ygg_list::NoMemory;
 use ygg_sched::{Case, CaseKind, Schedule, Typed};
+use ygg_syntax::lists;
 
 impl<'a> ReplaySite<'a> {
     /// The first hypothesis on the first states that is false, counted from 0.
@@ -43,7 +44,7 @@ impl<'a> ReplaySite<'a> {
         match case.kind {
             CaseKind::Init => 0,
             CaseKind::Call | CaseKind::Cut | CaseKind::Tick | CaseKind::CutTick | CaseKind::Idle =>
-                { 1 + self.layer.always.as_slice().len() }
+                { 1 + lists::expr::as_slice(&self.layer.always).len() }
             CaseKind::Again => self.layer.settled.len(),
         }
     }
@@ -96,7 +97,7 @@ pub fn replay(
     requires { IsAsked typed.now.file case schedule.now }
     ensures { IfOk result (λ answer. IsShown typed.now.file case schedule.now answer) }
 {
-    let Some(layer) = typed.file().layers.get(case.layer as usize) else {
+    let Some(layer) = lists::layer::get(&typed.file().layers, case.layer as usize) else {
         unreachable!();
     };
     let site = ReplaySite {

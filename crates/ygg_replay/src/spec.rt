@@ -13,6 +13,7 @@ use crate::site::ReplaySite;
 use ygg_eval::{Body, Ended, Lower, Part, SpecLower, run_body, spec_lower, zeros};
 use ygg_list::{NoMemory, Sequence};
 use ygg_sched::{CaseKind, Schedule, Turn};
+use ygg_syntax::lists;
 use ygg_value::{Value, Values};
 
 /// How a step of a specification has ended: its answer, if it gives one, and the specification after it.
@@ -44,7 +45,7 @@ impl<'a> ReplaySite<'a> {
             part: Part::Start,
             number: 0,
         };
-        let declared = self.layer.state.as_slice();
+        let declared = lists::declared::as_slice(&self.layer.state);
         let mut state = zeros(self.alloc, declared)?;
         // a `start` block calls no machine, whichever is handed in
         let mut unused = self.specification(zeros(self.alloc, declared)?)?;

@@ -2,6 +2,7 @@ ghost use Rattle.std.specs.Prelude.{◌≡◌, IfOk};
 
 use crate::case::{Case, CaseKind};
 use ygg_base::NoMemory;
+use ygg_syntax::lists;
 use ygg_syntax::tree::{Declared, DiskText, Layer, Operation, Tick};
 
 /// An obligation of a layer, with its operation or background step.
@@ -112,7 +113,7 @@ impl<'a> LayerClaim<'a> {
     {
         match self {
             LayerClaim::Call(operation) | LayerClaim::Cut(operation) => {
-                operation.arguments.as_slice()
+                lists::declared::as_slice(&operation.arguments)
             }
             LayerClaim::Init
             | LayerClaim::Tick(_)
@@ -183,7 +184,7 @@ impl<'a> Claim<'a> {
         ensures { result.now ≡ state_lines (site_in self.entry) }
     {
         if self.obligation.has_state() {
-            self.layer.state.as_slice()
+            lists::declared::as_slice(&self.layer.state)
         } else {
             &[]
         }
@@ -194,7 +195,7 @@ impl<'a> Claim<'a> {
         ensures { result.now ≡ memory_lines (site_in self.entry) }
     {
         if self.obligation.has_state() {
-            self.layer.memory.as_slice()
+            lists::declared::as_slice(&self.layer.memory)
         } else {
             &[]
         }

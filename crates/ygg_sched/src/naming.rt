@@ -15,6 +15,7 @@ use crate::case::Case;
 use crate::claim::{Claim, LayerClaim, Low};
 use crate::words::after_front;
 use ygg_base::NoMemory;
+use ygg_syntax::lists;
 use ygg_syntax::tree::{File, Layer, Name, Operation, Tick};
 
 /// An obligation of a layer, and the place of its operation or background step in the layer's list, from 0, else 0.
@@ -129,7 +130,11 @@ fn obligation_named<'a>(layer: &'a Layer, name: &[u8]) -> Option<Numbered<'a>>
     ensures stands { IfSome result (IsNumbered layer.now.operations layer.now.ticks) }
 {
     match after_front(name, layer.name.text.as_slice()) {
-        Some(own) => own_named(layer.operations.as_slice(), layer.ticks.as_slice(), own),
+        Some(own) => own_named(
+            lists::operation::as_slice(&layer.operations),
+            lists::tick::as_slice(&layer.ticks),
+            own,
+        ),
         None => None,
     }
 }
@@ -151,7 +156,7 @@ fn claim_in<'a>(layers: &'a [Layer], below: Low<'a>, name: &[u8]) -> Option<Clai
                     number: found.number,
                 });
             }
-            None => low = Low::Variables(layer.state.as_slice()),
+            None => low = Low::Variables(lists::declared::as_slice(&layer.state)),
         }
     }
     None
@@ -162,7 +167,11 @@ pub fn claim_named<'a>(file: &'a File, name: &[u8]) -> Option<Claim<'a>>
     ensures named { option_map site_in result ≡ site_named file.now name.now }
     ensures stands { IfSome result (λ c. StandsAt (c.layer.now).operations (c.layer.now).ticks (obligation_in c.obligation) c.number) }
 {
-    claim_in(file.layers.as_slice(), Low::Disk(file.disk), name)
+    claim_in(
+        lists::layer::as_slice(&file.layers),
+        Low::Disk(file.disk),
+        name,
+    )
 }
 
 /// The first obligation of a file that has this name, by its places; none exactly where the file has none. Its only error is out of memory: no machine has

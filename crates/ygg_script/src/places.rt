@@ -9,6 +9,7 @@ ghost use Rattle.ygg_script.specs.Places.{top_operations, arguments_at, layer_pl
 use std::alloc::Global;
 use ygg_base::{NoMemory, Text};
 use ygg_sched::{Typed, cut, value_in};
+use ygg_syntax::lists;
 use ygg_syntax::tree::{Declared, Layer};
 use ygg_value::Values;
 
@@ -36,7 +37,7 @@ fn arguments_in(layers: &[Layer], op: u32) -> &[Declared]
         .as_slice()
         .get(op as usize)
     {
-        Some(operation) => operation.arguments.as_slice(),
+        Some(operation) => lists::declared::as_slice(&operation.arguments),
         None => &[],
     }
 }
@@ -45,7 +46,7 @@ fn arguments_in(layers: &[Layer], op: u32) -> &[Declared]
 pub fn arguments_at(typed: &Typed, op: u32) -> &[Declared]
     ensures { result.now ≡ arguments_at (top_operations typed.now.file) op }
 {
-    arguments_in(typed.file().layers.as_slice(), op)
+    arguments_in(lists::layer::as_slice(&typed.file().layers), op)
 }
 
 /// The place, from 0, of the first of at most 8 layers that has this name.
@@ -67,7 +68,7 @@ pub fn layer_named(typed: &Typed, name: &[u8]) -> Option<u32>
     ensures place { result ≡ layer_place 0 typed.now.file.layers name.now }
     ensures within { IfSome result (λ place. place < length typed.now.file.layers) }
 {
-    place_of_layer(typed.file().layers.as_slice(), name)
+    place_of_layer(lists::layer::as_slice(&typed.file().layers), name)
 }
 
 /// The place, from 0, of a layer's background step of a name. Its only error is out of memory.

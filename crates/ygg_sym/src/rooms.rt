@@ -9,6 +9,7 @@ ghost use Rattle.ygg_sym.specs.Sites.{below_in};
 
 use ygg_sym_machine::SymDisk;
 use ygg_sym_spec::{NoMemory, SymBelow, SymLayer, SymSpec, choices, room};
+use ygg_syntax::lists;
 use ygg_syntax::tree::{Block, DiskText, Operation};
 
 /// How many places a block has, each call of it as many as the machine below says. Its only error is out of memory: no machine has memory for so
@@ -60,7 +61,7 @@ fn failures(layer: SymLayer<'_>) -> Result<u64, NoMemory>
     ensures { IfOk result (λ n. n ≡ fall_room (closed layer.entry)) }
 {
     let mut count = choices_of(&layer.layer.crash)?;
-    let operations = layer.layer.operations.as_slice();
+    let operations = lists::operation::as_slice(&layer.layer.operations);
     for operation in operations {
         count = sum(count, failures_within(layer, operation)?)?;
     }

@@ -21,6 +21,7 @@ use ygg_sym_spec::{
     Bank, Book, NoMemory, SymBinding, SymLayer, SymLower, SymRunner, SymSpec, SymValue, SymValues,
     bind, values_of, whole,
 };
+use ygg_syntax::lists;
 use ygg_syntax::tree::{Block, Declared, DiskText};
 
 /// What a whole run on a machine leaves.
@@ -65,7 +66,7 @@ pub fn run_on_disk<B: Book>(
         book,
     };
     let values = low.copy(alloc)?;
-    let variables = at.layer.layer.memory.as_slice();
+    let variables = lists::declared::as_slice(&at.layer.layer.memory);
     let ran = run_with(
         &runner,
         at.block,
@@ -114,7 +115,7 @@ pub fn run_on_spec<B: Book>(
         book,
     };
     let values = low.copy(alloc)?;
-    let variables = at.layer.layer.memory.as_slice();
+    let variables = lists::declared::as_slice(&at.layer.layer.memory);
     let ran = run_with(
         &runner,
         at.block,
@@ -171,7 +172,7 @@ pub fn cut_on_disk<B: Book>(
         book,
     };
     let values = low.copy(alloc)?;
-    let variables = at.layer.layer.memory.as_slice();
+    let variables = lists::declared::as_slice(&at.layer.layer.memory);
     let end = cut_with(
         &runner,
         at.block,
@@ -227,7 +228,7 @@ pub fn cut_on_spec<B: Book>(
         book,
     };
     let values = low.copy(alloc)?;
-    let variables = at.layer.layer.memory.as_slice();
+    let variables = lists::declared::as_slice(&at.layer.layer.memory);
     let end = cut_with(
         &runner,
         at.block,

@@ -14,6 +14,7 @@ use ygg_sym_machine::{
     Bank, Book, Halting, NoMemory, Node, StopEnd, StopState, SymBinding, SymFrame, SymLower,
     SymRunner, SymStops, end_halting,
 };
+use ygg_syntax::lists;
 use ygg_syntax::tree::Block;
 use ygg_value::Word;
 
@@ -99,7 +100,7 @@ fn run<'a, W: SymLower, B: Book>(
     ensures bank { IsBank bank.new }
 {
     let mut frame = SymFrame { names, state };
-    let last = runner.statements(b.statements.as_slice(), 0, bank, &mut frame)?;
+    let last = runner.statements(lists::stmt::as_slice(&b.statements), 0, bank, &mut frame)?;
     let SymFrame { names, state } = frame;
     Ok(Ran { last, names, state })
 }

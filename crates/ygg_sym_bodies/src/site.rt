@@ -15,6 +15,7 @@ ghost use Rattle.ygg_sym_bodies.specs.Sites.{AtBlock};
 use ygg_eval::{Body, Part, arguments_of, block_of};
 use ygg_sym::{SymBlock, SymLayer};
 use ygg_sym_spec::SymBelow;
+use ygg_syntax::lists;
 use ygg_syntax::tree::{Declared, File};
 use ygg_type::Typed;
 
@@ -36,8 +37,8 @@ fn variables<'a>(file: &'a File, tables: &'a [Declared], number: u32) -> &'a [De
     if number == 0 {
         return tables;
     }
-    let below = &file.layers.as_slice()[number as usize - 1];
-    below.state.as_slice()
+    let below = &lists::layer::as_slice(&file.layers)[number as usize - 1];
+    lists::declared::as_slice(&below.state)
 }
 
 /// What the layer with a number is specified over, where the file's disk shows these tables.
@@ -50,9 +51,9 @@ fn below<'a>(file: &'a File, tables: &'a [Declared], number: u32) -> SymBelow<'a
     if number == 0 {
         return SymBelow::Disk(file.disk);
     }
-    let defs = file.defs.as_slice();
+    let defs = lists::def::as_slice(&file.defs);
     let low = variables(file, tables, number - 1);
-    let layer = &file.layers.as_slice()[number as usize - 1];
+    let layer = &lists::layer::as_slice(&file.layers)[number as usize - 1];
     SymBelow::Layer(SymLayer { defs, layer, low })
 }
 
@@ -66,8 +67,8 @@ pub fn level_of<'a>(file: &'a File, tables: &'a [Declared], number: u32) -> Leve
     ensures below { below_in result.below ≡ below_at file.now number }
     ensures same { SameDefs result.layer result.below }
 {
-    let defs = file.defs.as_slice();
-    let layer = &file.layers.as_slice()[number as usize];
+    let defs = lists::def::as_slice(&file.defs);
+    let layer = &lists::layer::as_slice(&file.layers)[number as usize];
     let low = variables(file, tables, number);
     Level {
         layer: SymLayer { defs, layer, low },

@@ -28,6 +28,7 @@ use crate::held::{SymBinding, bound, copied, value_of};
 use crate::made::{filled, id_in, operated, part, row, word};
 use std::alloc::Global;
 use ygg_shape::{Bank, Book, Id, NoMemory, Node, SymValue, merge};
+use ygg_syntax::lists;
 use ygg_syntax::tree::{Def, Expr, Name, Numeral, Quantifier};
 use ygg_value::{Op, Word};
 
@@ -106,31 +107,31 @@ impl<'a, 'n> SymEvaluator<'a, 'n> {
             Expr::Low(_, x) => value_of(self.alloc, self.low, &[], x.text.as_slice()),
             Expr::Variable(x) => value_of(self.alloc, self.own, self.numbers, x.text.as_slice()),
             Expr::Apply(f, arguments) => {
-                let arguments = self.values(bank, book, arguments.as_slice())?;
+                let arguments = self.values(bank, book, lists::expr::as_slice(arguments))?;
                 self.called(bank, book, f.text.as_slice(), arguments.as_slice())
             }
             Expr::Binary(_, a, op, _, b) => {
-                let a = self.value_by(bank, book, a.get())?;
-                let b = self.value_by(bank, book, b.get())?;
+                let a = self.value_by(bank, book, lists::expr::get(a))?;
+                let b = self.value_by(bank, book, lists::expr::get(b))?;
                 operated(bank, book, *op, &a, &b)
             }
             Expr::Not(_, a) => {
-                let a = self.value_by(bank, book, a.get())?;
+                let a = self.value_by(bank, book, lists::expr::get(a))?;
                 word(bank, book, Node::Not { a: id_in(&a) })
             }
             Expr::At(whole, _, i) => {
-                let whole = self.value_by(bank, book, whole.get())?;
-                let i = self.value_by(bank, book, i.get())?;
+                let whole = self.value_by(bank, book, lists::expr::get(whole))?;
+                let i = self.value_by(bank, book, lists::expr::get(i))?;
                 part(self.alloc, bank, book, whole, id_in(&i))
             }
             Expr::Pick(_, test, a, b) => {
-                let test = self.value_by(bank, book, test.get())?;
-                let a = self.value_by(bank, book, a.get())?;
-                let b = self.value_by(bank, book, b.get())?;
+                let test = self.value_by(bank, book, lists::expr::get(test))?;
+                let a = self.value_by(bank, book, lists::expr::get(a))?;
+                let b = self.value_by(bank, book, lists::expr::get(b))?;
                 merge(self.alloc, bank, book, id_in(&test), &a, &b)
             }
             Expr::Resize(_, a, w) => {
-                let a = self.value_by(bank, book, a.get())?;
+                let a = self.value_by(bank, book, lists::expr::get(a))?;
                 let width = w.value as u8;
                 word(
                     bank,
@@ -142,15 +143,15 @@ impl<'a, 'n> SymEvaluator<'a, 'n> {
                 )
             }
             Expr::Fill(_, m, a) => {
-                let a = self.value_by(bank, book, a.get())?;
+                let a = self.value_by(bank, book, lists::expr::get(a))?;
                 filled(self.alloc, m.value, id_in(&a))
             }
             Expr::Row(_, parts) => {
-                let parts = self.values(bank, book, parts.as_slice())?;
+                let parts = self.values(bank, book, lists::expr::as_slice(parts))?;
                 row(self.alloc, parts.as_slice())
             }
             Expr::Quantified(_, which, x, w, n, e) => {
-                let holds = self.quantified(bank, book, *which, x, *w, *n, e.get())?;
+                let holds = self.quantified(bank, book, *which, x, *w, *n, lists::expr::get(e))?;
                 Ok(SymValue::Word(holds))
             }
         }
@@ -200,7 +201,7 @@ impl<'a, 'n> SymEvaluator<'a, 'n> {
         match definition(self.defs, name) {
             Some(place) => {
                 let def = &self.defs[place];
-                let own = bound(self.alloc, def.parameters.as_slice(), args)?;
+                let own = bound(self.alloc, lists::declared::as_slice(&def.parameters), args)?;
                 let inner = SymEvaluator::new(self.alloc, &self.defs[..place], own.as_slice(), &[]);
                 inner.value_by(bank, book, &def.body)
             }

@@ -13,6 +13,7 @@ use crate::lower::SymLower;
 use crate::question::Awaited;
 use crate::{Bank, Book, Id, NoMemory, SymBinding, SymEvaluator, SymValue, SymValues, id_in};
 use std::alloc::Global;
+use ygg_syntax::lists;
 use ygg_syntax::tree::{Def, Expr, Index, Name, Source};
 
 /// What stays the same while a block is run over terms: the definitions of its file, the machine below it, and the rules of terms.
@@ -153,7 +154,7 @@ impl<'a, W: SymLower, B: Book> SymRunner<'a, W, B> {
             Source::Value(e) => self.value(e, bank, names),
             Source::Choose(_) => self.ask(place, Awaited::Choice, bank, state),
             Source::Call(_, f, es) => {
-                let args = self.values(es.as_slice(), bank, names)?;
+                let args = self.values(lists::expr::as_slice(es), bank, names)?;
                 let question = Awaited::Call(f.text.as_slice(), args.as_slice());
                 self.ask(place, question, bank, state)
             }

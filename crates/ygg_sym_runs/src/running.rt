@@ -15,6 +15,7 @@ use crate::lower::SymLower;
 use crate::runner::SymRunner;
 use crate::statements::SymFrame;
 use crate::{Bank, Book, NoMemory, SymBinding, SymValue};
+use ygg_syntax::lists;
 use ygg_syntax::tree::{Block, Expr};
 
 /// How a whole run ended.
@@ -48,7 +49,7 @@ pub fn whole<'a, W: SymLower, B: Book>(
     // the bank's nodes stand in order
     let _ = bank.len();
     let mut frame = SymFrame { names, state };
-    runner.statements(b.statements.as_slice(), 0, bank, &mut frame)?;
+    runner.statements(lists::stmt::as_slice(&b.statements), 0, bank, &mut frame)?;
     let answer = returned(runner, &b.answer, bank, frame.names.as_slice())?;
     let SymFrame { mut names, state } = frame;
     names.truncate(count);

@@ -30,6 +30,7 @@ use crate::question::Awaited;
 use crate::runner::SymRunner;
 use crate::{Bank, Book, Id, NoMemory, Node, SymBinding, SymValue, id_in};
 use ygg_list::Duplicate;
+use ygg_syntax::lists;
 use ygg_syntax::tree::{Block, Expr, Index, Name, Numeral, Source, Stmt};
 use ygg_value::Word;
 
@@ -203,7 +204,7 @@ impl<'a, W: SymLower, B: Book> SymRunner<'a, W, B> {
         match s {
             Stmt::Let(x, from) => self.bound(x, from, place, bank, frame),
             Stmt::Assign(x, indices, from) => {
-                self.assigned(x, indices.as_slice(), from, place, bank, frame)
+                self.assigned(x, lists::index::as_slice(indices), from, place, bank, frame)
             }
             Stmt::If(test, first, second) => {
                 let value = self.value(test, bank, frame.names.as_slice())?;
@@ -214,7 +215,7 @@ impl<'a, W: SymLower, B: Book> SymRunner<'a, W, B> {
                 Ok(end)
             }
             Stmt::For(x, w, n, each) => self.turns(x, *w, *n, each, place, bank, frame),
-            Stmt::Call(f, es) => self.called(f, es.as_slice(), place, bank, frame),
+            Stmt::Call(f, es) => self.called(f, lists::expr::as_slice(es), place, bank, frame),
         }
     }
 
@@ -259,7 +260,7 @@ impl<'a, W: SymLower, B: Book> SymRunner<'a, W, B> {
         ensures bank { IsBank bank.new }
     {
         let outside = frame.names.len();
-        let end = self.statements(b.statements.as_slice(), place, bank, frame)?;
+        let end = self.statements(lists::stmt::as_slice(&b.statements), place, bank, frame)?;
         frame.names.truncate(outside);
         Ok(end)
     }

@@ -7,6 +7,7 @@ ghost use Rattle.std.specs.Prelude.{ℕ};
 ghost use Rattle.ygg_sym_runs.specs.Lower.{Counts};
 
 use crate::lower::SymLower;
+use ygg_syntax::lists;
 use ygg_syntax::tree::{Block, Source, Stmt};
 
 /// How many places the calls and choices of a block have on a machine, where that is below 2^64.
@@ -14,7 +15,7 @@ use ygg_syntax::tree::{Block, Source, Stmt};
 pub fn room<W: SymLower>(machine: &W, b: &Block) -> Option<u64>
     ensures { Counts (room_of (W.means machine.now).space b.now) result }
 {
-    rooms(machine, b.statements.as_slice())
+    rooms(machine, lists::stmt::as_slice(&b.statements))
 }
 
 /// Those of statements.

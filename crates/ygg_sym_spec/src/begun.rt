@@ -13,6 +13,7 @@ use crate::layer::SymLayer;
 use crate::picks::SymPicks;
 use std::alloc::Global;
 use ygg_sym_runs::{Bank, Book, NoMemory, SymValues};
+use ygg_syntax::lists;
 
 /// The variables of a specification at its start. Inputs of the bank from the given number on are single digits. Its only error is out of memory,
 /// after which the bank may have more nodes.
@@ -32,7 +33,12 @@ pub fn start<B: Book>(
     ensures single { OnOk result (KeepsSingle bank.old bank.new) }
     ensures bank { IsBank bank.new }
 {
-    let zeros = zeros(alloc, bank, book, layer.layer.state.as_slice())?;
+    let zeros = zeros(
+        alloc,
+        bank,
+        book,
+        lists::declared::as_slice(&layer.layer.state),
+    )?;
     let picks = SymPicks::Given(&[], first);
     let done = block(
         alloc,

@@ -18,6 +18,7 @@ use crate::picks::SymPicks;
 use std::alloc::Global;
 use ygg_list::Duplicate;
 use ygg_sym_runs::{Bank, Book, NoMemory, SymBinding, SymRunner, SymValue, SymValues, room, whole};
+use ygg_syntax::lists;
 use ygg_syntax::tree::{Block, Declared};
 
 /// What a block of a specification leaves.
@@ -68,7 +69,7 @@ pub fn block<'a, B: Book>(
     bind(
         alloc,
         &mut names,
-        layer.layer.state.as_slice(),
+        lists::declared::as_slice(&layer.layer.state),
         vars.as_slice(),
     )?;
     let count = vars.len();

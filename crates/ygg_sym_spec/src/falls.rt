@@ -14,6 +14,7 @@ use crate::picks::SymPicks;
 use std::alloc::Global;
 use ygg_sym_runs::low_states::merge_lows;
 use ygg_sym_runs::{Bank, Book, NoMemory, SymValue, SymValues};
+use ygg_syntax::lists;
 use ygg_syntax::tree::Operation;
 
 /// What power leaves that fails within an operation of this name: what is none leaves the variables. Its only error is out of memory, after which
@@ -38,7 +39,7 @@ pub fn fall<B: Book>(
 {
     // the bank's nodes stand in order
     let _ = bank.len();
-    match operation_of(layer.layer.operations.as_slice(), name) {
+    match operation_of(lists::operation::as_slice(&layer.layer.operations), name) {
         Some(operation) => cut(alloc, bank, book, layer, picks, operation, args, vars),
         None => vars.copy(alloc),
     }
@@ -72,7 +73,7 @@ fn cut<'a, B: Book>(
             picks,
             b,
             vars,
-            operation.arguments.as_slice(),
+            lists::declared::as_slice(&operation.arguments),
             args,
         ),
         None => wholly_or_not(alloc, bank, book, layer, picks, operation, args, vars),
@@ -110,7 +111,7 @@ fn wholly_or_not<'a, B: Book>(
         later,
         &operation.spec,
         vars,
-        operation.arguments.as_slice(),
+        lists::declared::as_slice(&operation.arguments),
         args,
     )?;
     let nothing = crash(alloc, bank, book, layer, later, vars)?;

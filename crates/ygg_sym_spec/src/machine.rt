@@ -14,6 +14,7 @@ use crate::picks::SymPicks;
 use std::alloc::Global;
 use ygg_sym_runs::low_states::{Lows, merge_lows};
 use ygg_sym_runs::{Awaited, Bank, Book, Id, NoMemory, SymLower, SymValue};
+use ygg_syntax::lists;
 
 /// The specification of a layer over terms, whose picks are inputs of the bank: of each place the one whose number is so much above the first.
 #[derive(Clone, Copy)]
@@ -33,7 +34,10 @@ impl<'a> SymLower for SymSpec<'a> {
     ghost means = { spec_meaning };
 
     fn space(&self, name: &[u8]) -> Option<u64> {
-        match operation_of(self.layer.layer.operations.as_slice(), name) {
+        match operation_of(
+            lists::operation::as_slice(&self.layer.layer.operations),
+            name,
+        ) {
             Some(operation) => match choices(&operation.spec) {
                 Some(count) => count.checked_add(1),
                 None => None,
@@ -98,7 +102,7 @@ fn call<B: Book>(
 {
     // the bank's nodes stand in order
     let _ = bank.len();
-    match operation_of(layer.layer.operations.as_slice(), name) {
+    match operation_of(lists::operation::as_slice(&layer.layer.operations), name) {
         Some(operation) => {
             let picks = SymPicks::Inputs(first);
             let done = block(
@@ -109,7 +113,7 @@ fn call<B: Book>(
                 picks,
                 &operation.spec,
                 &state.values,
-                operation.arguments.as_slice(),
+                lists::declared::as_slice(&operation.arguments),
                 args,
             )?;
             state.values = done.vars;

@@ -1,7 +1,8 @@
 //! The lists and boxes of trees, seen by reference. `Items::as_slice` and `Boxed::get` take the type of what is held as a parameter, and the prover spells that
 //! out at each of their calls: for statements a megabyte. So they are called here, once for each type, and these calls elsewhere.
 
-ghost use Rattle.std.specs.Prelude.{◌≡◌};
+ghost use Rattle.std.specs.Prelude.{◌≡◌, ◌<◌, length, slice_get, OnSome};
+ghost use Rattle.std.specs.Option.{option_copied};
 
 /// Statements.
 pub mod stmt {
@@ -26,6 +27,13 @@ pub mod expr {
         ensures { result.now ≡ list.now }
     {
         list.as_slice()
+    }
+
+    /// The expression at a place of a list, counted from 0.
+    pub fn nth(list: &Items<Expr>, at: usize) -> Option<&Expr>
+        ensures { option_copied result ≡ slice_get list.now at }
+    {
+        list.get(at)
     }
 
     /// The expression in a box.
@@ -86,6 +94,14 @@ pub mod operation {
     {
         list.as_slice()
     }
+
+    /// The operation at a place of a list, counted from 0.
+    pub fn get(list: &Items<Operation>, at: usize) -> Option<&Operation>
+        ensures value { option_copied result ≡ slice_get list.now at }
+        ensures within { OnSome result (at < length list.now) }
+    {
+        list.get(at)
+    }
 }
 
 /// Background steps.
@@ -99,6 +115,14 @@ pub mod tick {
     {
         list.as_slice()
     }
+
+    /// The background step at a place of a list, counted from 0.
+    pub fn get(list: &Items<Tick>, at: usize) -> Option<&Tick>
+        ensures value { option_copied result ≡ slice_get list.now at }
+        ensures within { OnSome result (at < length list.now) }
+    {
+        list.get(at)
+    }
 }
 
 /// Layers.
@@ -111,5 +135,13 @@ pub mod layer {
         ensures { result.now ≡ list.now }
     {
         list.as_slice()
+    }
+
+    /// The layer at a place of a list, counted from 0.
+    pub fn get(list: &Items<Layer>, at: usize) -> Option<&Layer>
+        ensures value { option_copied result ≡ slice_get list.now at }
+        ensures within { OnSome result (at < length list.now) }
+    {
+        list.get(at)
     }
 }

@@ -12,8 +12,8 @@ use crate::declarations::parameters;
 use crate::shapes;
 use ygg_base::Reason;
 use ygg_list::NoMemory;
-use ygg_syntax::Weights;
 use ygg_syntax::tree::Def;
+use ygg_syntax::{Weights, lists};
 use ygg_type_rules::Signature;
 
 /// The type errors of a definition, whose parameters stay in scope.
@@ -30,7 +30,7 @@ fn type_errors<'a>(
 {
     let taken = checker.defs.has(def.name.text.as_slice());
     checker.first.check(!taken, Reason::Twice, def.name.place);
-    parameters(checker, def.parameters.as_slice())?;
+    parameters(checker, lists::declared::as_slice(&def.parameters))?;
     checker.first.type_text(def.shape);
     let weight = weights.define(def)?;
     checker.claim(&def.body, shapes::named(def.shape), weight)
@@ -42,7 +42,7 @@ fn define<'a>(checker: &mut Typer<'a>, def: &'a Def) -> Result<(), NoMemory>
     ensures scope { OnOk result (scope_of checker.new ≡ record (scope_of checker.old) { defs = with_definition def.now checker.old.defs; locals = [] }) }
 {
     checker.forget(0);
-    let arguments = shapes::all(checker.alloc, def.parameters.as_slice())?;
+    let arguments = shapes::all(checker.alloc, lists::declared::as_slice(&def.parameters))?;
     checker.defs.add(
         def.name.text.as_slice(),
         Signature {

@@ -11,6 +11,7 @@ use crate::limits::is_weight;
 use crate::shapes;
 use ygg_base::Reason;
 use ygg_list::{NoMemory, Sequence};
+use ygg_syntax::lists;
 use ygg_syntax::tree::{Expr, Name, Numeral};
 use ygg_type_rules::TypedExpr;
 use ygg_value::Shape;
@@ -43,7 +44,7 @@ impl<'a> Typer<'a> {
                 })
             }
             Expr::Apply(f, arguments) => {
-                let parts = self.infer_all(arguments.as_slice())?;
+                let parts = self.infer_all(lists::expr::as_slice(arguments))?;
                 let def = self.defs.find(f.text.as_slice());
                 Ok(TypedExpr {
                     place: f.place,
@@ -51,53 +52,53 @@ impl<'a> Typer<'a> {
                 })
             }
             Expr::Binary(first, a, op, at, b) => {
-                let a = self.infer(a.get())?;
-                let b = self.infer(b.get())?;
+                let a = self.infer(lists::expr::get(a))?;
+                let b = self.infer(lists::expr::get(b))?;
                 Ok(TypedExpr {
                     place: *first,
                     shape: self.first.operator(*op, *at, a, b),
                 })
             }
             Expr::Not(first, a) => {
-                let a = self.infer(a.get())?;
+                let a = self.infer(lists::expr::get(a))?;
                 Ok(TypedExpr {
                     place: *first,
                     shape: self.first.not(a),
                 })
             }
             Expr::At(whole, bracket, i) => {
-                let whole = self.infer(whole.get())?;
-                let i = self.infer(i.get())?;
+                let whole = self.infer(lists::expr::get(whole))?;
+                let i = self.infer(lists::expr::get(i))?;
                 Ok(TypedExpr {
                     place: whole.place,
                     shape: self.first.index(whole.shape, *bracket, i),
                 })
             }
             Expr::Pick(first, c, a, b) => {
-                let c = self.infer(c.get())?;
-                let a = self.infer(a.get())?;
-                let b = self.infer(b.get())?;
+                let c = self.infer(lists::expr::get(c))?;
+                let a = self.infer(lists::expr::get(a))?;
+                let b = self.infer(lists::expr::get(b))?;
                 Ok(TypedExpr {
                     place: *first,
                     shape: self.first.pick(c, a, b),
                 })
             }
             Expr::Resize(first, a, w) => {
-                let a = self.infer(a.get())?;
+                let a = self.infer(lists::expr::get(a))?;
                 Ok(TypedExpr {
                     place: *first,
                     shape: self.first.resize(a, *w),
                 })
             }
             Expr::Fill(first, m, a) => {
-                let a = self.infer(a.get())?;
+                let a = self.infer(lists::expr::get(a))?;
                 Ok(TypedExpr {
                     place: *first,
                     shape: self.first.fill(*m, a),
                 })
             }
             Expr::Row(first, parts) => {
-                let parts = self.infer_all(parts.as_slice())?;
+                let parts = self.infer_all(lists::expr::as_slice(parts))?;
                 Ok(TypedExpr {
                     place: *first,
                     shape: self.first.row(*first, parts.as_slice()),
@@ -105,7 +106,7 @@ impl<'a> Typer<'a> {
             }
             Expr::Quantified(first, _, x, w, n, e) => {
                 let taken = self.is_taken(x.text.as_slice());
-                let e = self.infer_with(x, *w, e.get())?;
+                let e = self.infer_with(x, *w, lists::expr::get(e))?;
                 Ok(TypedExpr {
                     place: *first,
                     shape: self.first.quantified(x, taken, *w, *n, e),

@@ -28,8 +28,8 @@ use std::alloc::Global;
 use std::mem;
 use ygg_base::{DiskKind, Reason};
 use ygg_list::{NoMemory, Sequence};
-use ygg_syntax::Weights;
 use ygg_syntax::tree::{DiskText, File, Layer, TypeText};
+use ygg_syntax::{Weights, lists};
 use ygg_type_rules::{Names, Owner, Signature, TypeError, Variable, Visibility};
 use ygg_value::Shape;
 
@@ -188,7 +188,7 @@ fn beginning<'a>(
     checker
         .first
         .type_text(TypeText::Table(disk.rows, disk.words, disk.width));
-    definitions(checker, weights, file.defs.as_slice())?;
+    definitions(checker, weights, lists::def::as_slice(&file.defs))?;
     disk_operations(checker.alloc, &mut checker.lower, disk)?;
     checker.view = Visibility::Settled;
     disk_variables(&mut checker.low, disk)
@@ -206,7 +206,7 @@ fn found<'a>(
     ensures { IfOk result (λ found. found ≡ first_after None (type_errors_of file.now)) }
 {
     beginning(checker, weights, file)?;
-    layers(checker, weights, file.layers.as_slice())?;
+    layers(checker, weights, lists::layer::as_slice(&file.layers))?;
     Ok(checker.first.type_error)
 }
 

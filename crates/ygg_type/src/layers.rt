@@ -33,8 +33,8 @@ use crate::shapes;
 use std::alloc::Global;
 use ygg_base::Reason;
 use ygg_list::NoMemory;
-use ygg_syntax::Weights;
 use ygg_syntax::tree::{Block, Declared, Expr, Layer, Operation, Tick};
+use ygg_syntax::{Weights, lists};
 use ygg_type_rules::{Names, Owner, Signature, Variable, Visibility, choices};
 
 /// Variables of a kind, after those that are there.
@@ -117,7 +117,7 @@ fn operation_inside<'a>(
         .first
         .check(!taken, Reason::Twice, operation.name.place);
     picks(&mut checker.first, operation, crash);
-    parameters(checker, operation.arguments.as_slice())?;
+    parameters(checker, lists::declared::as_slice(&operation.arguments))?;
     checker.first.answer_type(operation.answer);
     operation_blocks(checker, weights, operation)
 }
@@ -130,7 +130,7 @@ fn add_operation<'a>(
 ) -> Result<(), NoMemory>
     ensures { OnOk result (known.new ≡ with_operation operation.now known.old) }
 {
-    let arguments = shapes::all(alloc, operation.arguments.as_slice())?;
+    let arguments = shapes::all(alloc, lists::declared::as_slice(&operation.arguments))?;
     known.add(
         operation.name.text.as_slice(),
         Signature {
@@ -263,19 +263,19 @@ fn relations<'a>(
         checker,
         weights,
         Visibility::Relation,
-        layer.always.as_slice(),
+        lists::expr::as_slice(&layer.always),
     )?;
     formulas(
         checker,
         weights,
         Visibility::Settled,
-        layer.settled.as_slice(),
+        lists::expr::as_slice(&layer.settled),
     )?;
     formulas(
         checker,
         weights,
         Visibility::Relation,
-        layer.maybe.as_slice(),
+        lists::expr::as_slice(&layer.maybe),
     )
 }
 
@@ -327,8 +327,16 @@ fn declared<'a>(checker: &mut Typer<'a>, layer: &'a Layer) -> Result<(), NoMemor
     ensures first { OnOk result (checker.new.first.type_error ≡ first_after checker.old.first.type_error (declared_errors layer.now)) }
     ensures scope { OnOk result (scope_of checker.new ≡ record (scope_of checker.old) { variables = variables_of layer.now }) }
 {
-    variables(checker, Owner::State, layer.state.as_slice())?;
-    variables(checker, Owner::Memory, layer.memory.as_slice())
+    variables(
+        checker,
+        Owner::State,
+        lists::declared::as_slice(&layer.state),
+    )?;
+    variables(
+        checker,
+        Owner::Memory,
+        lists::declared::as_slice(&layer.memory),
+    )
 }
 
 /// All parts of a layer, whose variables are not there yet. Its operations replace those that are known.
@@ -351,9 +359,9 @@ pub fn parts<'a>(
         checker,
         weights,
         known,
-        layer.operations.as_slice(),
+        lists::operation::as_slice(&layer.operations),
         &layer.crash,
     )?;
-    ticks(checker, weights, layer.ticks.as_slice())?;
+    ticks(checker, weights, lists::tick::as_slice(&layer.ticks))?;
     relations(checker, weights, layer)
 }

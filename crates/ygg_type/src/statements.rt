@@ -26,6 +26,7 @@ use crate::rules::all_shaped;
 use crate::shapes;
 use ygg_base::Reason;
 use ygg_list::NoMemory;
+use ygg_syntax::lists;
 use ygg_syntax::tree::{Block, Expr, Index, Name, Numeral, Place, Source, Stmt};
 use ygg_type_rules::{Local, Signature, TypedExpr};
 use ygg_value::Shape;
@@ -106,7 +107,13 @@ fn source<'a>(checker: &mut Typer<'a>, from: &'a Source) -> Result<TypedExpr, No
             place: *at,
             shape: Some(Shape::Word { width: 1 }),
         }),
-        Source::Call(at, f, arguments) => call(checker, *at, true, f, arguments.as_slice()),
+        Source::Call(at, f, arguments) => call(
+            checker,
+            *at,
+            true,
+            f,
+            lists::expr::as_slice(arguments),
+        ),
     }
 }
 
@@ -203,7 +210,7 @@ fn statement<'a>(checker: &mut Typer<'a>, one: &'a Stmt) -> Result<(), NoMemory>
     match one {
         Stmt::Let(x, from) => binding(checker, x, from),
         Stmt::Assign(x, indices, from) => {
-            assignment(checker, x, indices.as_slice(), from)?;
+            assignment(checker, x, lists::index::as_slice(indices), from)?;
             Ok(())
         }
         Stmt::If(test, first, second) => {
@@ -219,7 +226,7 @@ fn statement<'a>(checker: &mut Typer<'a>, one: &'a Stmt) -> Result<(), NoMemory>
             Ok(())
         }
         Stmt::Call(f, arguments) => {
-            call(checker, f.place, false, f, arguments.as_slice())?;
+            call(checker, f.place, false, f, lists::expr::as_slice(arguments))?;
             Ok(())
         }
     }
@@ -247,7 +254,7 @@ fn inside<'a>(checker: &mut Typer<'a>, b: &'a Block, shape: Option<Shape>) -> Re
     ensures first { OnOk result (checker.new.first.type_error ≡ first_after checker.old.first.type_error (block_errors b.now shape (scope_of checker.old))) }
     ensures grows { OnOk result (Grows (scope_of checker.old) (scope_of checker.new)) }
 {
-    statements(checker, b.statements.as_slice())?;
+    statements(checker, lists::stmt::as_slice(&b.statements))?;
     answer(checker, &b.answer, shape)?;
     Ok(())
 }

@@ -11,6 +11,7 @@ ghost use Rattle.ygg_type.specs.Typed.{IsFirstTypeError, geometry_of, operations
 use crate::files::first_type_error;
 use std::alloc::Global;
 use ygg_base::{Geometry, Refuse, Text};
+use ygg_syntax::lists;
 use ygg_syntax::tree::{DiskText, File, Operation, Tick};
 
 /// A layer file without a type error, which some list of fewer than 2^32 tokens derives.
@@ -56,9 +57,12 @@ impl Typed {
         requires { layer < length self.now.file.layers }
         ensures { result ≡ operation_place 0 (operations_at self.now.file.layers layer) name.now }
     {
-        match self.file.layers.get(layer as usize) {
+        match lists::layer::get(&self.file.layers, layer as usize) {
             None => None,
-            Some(layer) => place_of_operation(layer.operations.as_slice(), name.as_slice()),
+            Some(layer) => place_of_operation(
+                lists::operation::as_slice(&layer.operations),
+                name.as_slice(),
+            ),
         }
     }
 
@@ -69,9 +73,9 @@ impl Typed {
         requires { layer < length self.now.file.layers }
         ensures { result ≡ tick_place 0 (ticks_at self.now.file.layers layer) name.now }
     {
-        match self.file.layers.get(layer as usize) {
+        match lists::layer::get(&self.file.layers, layer as usize) {
             None => None,
-            Some(layer) => place_of_tick(layer.ticks.as_slice(), name.as_slice()),
+            Some(layer) => place_of_tick(lists::tick::as_slice(&layer.ticks), name.as_slice()),
         }
     }
 }
