@@ -6,6 +6,20 @@ ghost use Rattle.ygg_read.specs.ExpressionSteps.{IfRead, IfRefused, Added};
 use sqlite_items::Items;
 use ygg_list::NoMemory;
 
+/// The part that a call has read. Where it has read none, or no memory was left, the function ends so too. A `?` and a `let .. else` would say the same; but
+/// `?` has the type of what is read as a parameter, which the prover spells out, with all trees in it.
+macro_rules! part {
+    ($read:expr) => {
+        match $read {
+            Ok(Some(part)) => part,
+            Ok(None) => return Ok(None),
+            Err(none) => return Err(none),
+        }
+    };
+}
+
+pub(crate) use part;
+
 /// A part that was read, and what was read after it, where something was. The only error is that of the second part.
 pub fn both<A: Drop, B: Drop>(
     first: A,

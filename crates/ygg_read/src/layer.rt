@@ -14,7 +14,7 @@ ghost use Rattle.ygg_read.specs.Parts.{setup_pending, setup_read, steps_pending,
 
 use crate::Reader;
 use crate::blocks::{block, optional, unwritten};
-use crate::both::{added, both};
+use crate::both::{added, part};
 use crate::claims::{LayerClaims, claims};
 use crate::operations::{operations, ticks};
 use crate::variables::variables;
@@ -73,12 +73,8 @@ fn layer(reader: &mut Reader<'_>, place: Place) -> Result<Option<Layer>, NoMemor
     ensures refused { IfRefused result (Stops rest_of_layer reader.old reader.new) }
     ensures shorter { OnRead result (length reader.new < length reader.old) }
 {
-    let Some(name) = reader.name_before(Symbol::BraceOpen)? else {
-        return Ok(None);
-    };
-    let Some((name, parts)) = both(name, parts(reader))? else {
-        return Ok(None);
-    };
+    let name = part!(reader.name_before(Symbol::BraceOpen));
+    let parts = part!(parts(reader));
     let (setup, (steps, claims)) = parts;
     Ok(Some(Layer {
         place,
@@ -108,10 +104,9 @@ fn parts(
     ensures refused { IfRefused result (Stops (setup_pending ++ (steps_pending ++ claims_pending)) reader.old reader.new) }
     ensures shorter { OnRead result (length reader.new ≤ length reader.old) }
 {
-    let Some(setup) = setup(reader)? else {
-        return Ok(None);
-    };
-    both(setup, code(reader))
+    let setup = part!(setup(reader));
+    let rest = part!(code(reader));
+    Ok(Some((setup, rest)))
 }
 
 /// Reads the variables of a layer and the blocks that set them up.
@@ -121,15 +116,15 @@ fn setup(reader: &mut Reader<'_>) -> Result<Option<LayerSetup>, NoMemory>
     ensures refused { IfRefused result (Stops setup_pending reader.old reader.new) }
     ensures shorter { OnRead result (length reader.new ≤ length reader.old) }
 {
-    let Some(seen) = variables_and_block(reader, Keyword::State, Keyword::Start, BlockKind::Plain)?
-    else {
-        return Ok(None);
-    };
-    let unseen = variables_and_block(reader, Keyword::Memory, Keyword::Format, BlockKind::Impl);
-    let Some(read) = both(seen, unseen)? else {
-        return Ok(None);
-    };
-    let ((state, start), (memory, format)) = read;
+    let seen = part!(variables_and_block(reader, Keyword::State, Keyword::Start, BlockKind::Plain));
+    let unseen = part!(variables_and_block(
+        reader,
+        Keyword::Memory,
+        Keyword::Format,
+        BlockKind::Impl
+    ));
+    let (state, start) = seen;
+    let (memory, format) = unseen;
     Ok(Some(LayerSetup {
         state,
         start,
@@ -151,10 +146,9 @@ fn variables_and_block(
         (λ p. ForPart setup kind (λ q. Stops (repeated p ∷ perhaps q ∷ []) reader.old reader.new))) }
     ensures shorter { OnRead result (length reader.new ≤ length reader.old) }
 {
-    let Some(all) = variables(reader, each)? else {
-        return Ok(None);
-    };
-    both(all, optional(reader, setup, kind))
+    let all = part!(variables(reader, each));
+    let block = part!(optional(reader, setup, kind));
+    Ok(Some((all, block)))
 }
 
 /// Reads what a layer does and what it claims.
@@ -164,10 +158,9 @@ fn code(reader: &mut Reader<'_>) -> Result<Option<(LayerSteps, LayerClaims)>, No
     ensures refused { IfRefused result (Stops (steps_pending ++ claims_pending) reader.old reader.new) }
     ensures shorter { OnRead result (length reader.new ≤ length reader.old) }
 {
-    let Some(steps) = steps(reader)? else {
-        return Ok(None);
-    };
-    both(steps, claims(reader))
+    let steps = part!(steps(reader));
+    let claims = part!(claims(reader));
+    Ok(Some((steps, claims)))
 }
 
 /// Reads what a layer does.
@@ -177,14 +170,9 @@ fn steps(reader: &mut Reader<'_>) -> Result<Option<LayerSteps>, NoMemory>
     ensures refused { IfRefused result (Stops steps_pending reader.old reader.new) }
     ensures shorter { OnRead result (length reader.new ≤ length reader.old) }
 {
-    let Some(operations) = operations(reader)? else {
-        return Ok(None);
-    };
-    let Some((operations, (crash, rest))) = both(operations, after_operations(reader))? else {
-        return Ok(None);
-    };
-    let (crash_place, crash) = crash;
-    let (ticks, recover) = rest;
+    let operations = part!(operations(reader));
+    let after = part!(after_operations(reader));
+    let ((crash_place, crash), (ticks, recover)) = after;
     Ok(Some(LayerSteps {
         operations,
         crash_place,
@@ -206,10 +194,9 @@ fn after_operations(reader: &mut Reader<'_>) -> Result<Option<AfterOperations>, 
         reader.new) }
     ensures shorter { OnRead result (length reader.new ≤ length reader.old) }
 {
-    let Some(crash) = crash(reader)? else {
-        return Ok(None);
-    };
-    both(crash, ticks_and_recover(reader))
+    let crash = part!(crash(reader));
+    let rest = part!(ticks_and_recover(reader));
+    Ok(Some((crash, rest)))
 }
 
 /// Reads the keyword `crash` and its block, or nothing where the keyword doesn't come.
@@ -223,9 +210,7 @@ fn crash(reader: &mut Reader<'_>) -> Result<Option<(Place, Block)>, NoMemory>
         let nowhere = Place { line: 0, column: 0 };
         return Ok(Some((nowhere, unwritten(reader.alloc()))));
     };
-    let Some(block) = block(reader, BlockKind::Spec)? else {
-        return Ok(None);
-    };
+    let block = part!(block(reader, BlockKind::Spec));
     Ok(Some((place, block)))
 }
 
@@ -236,8 +221,7 @@ fn ticks_and_recover(reader: &mut Reader<'_>) -> Result<Option<(Items<Tick>, Blo
     ensures refused { IfRefused result (Stops (repeated pending.tick ∷ perhaps pending.recover_block ∷ []) reader.old reader.new) }
     ensures shorter { OnRead result (length reader.new ≤ length reader.old) }
 {
-    let Some(all) = ticks(reader)? else {
-        return Ok(None);
-    };
-    both(all, optional(reader, Keyword::Recover, BlockKind::Impl))
+    let all = part!(ticks(reader));
+    let recover = part!(optional(reader, Keyword::Recover, BlockKind::Impl));
+    Ok(Some((all, recover)))
 }

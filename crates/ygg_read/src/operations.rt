@@ -18,7 +18,7 @@ ghost use Rattle.ygg_read.specs.Parts.{operation_of};
 
 use crate::Reader;
 use crate::blocks::{answering, block};
-use crate::both::{added, both};
+use crate::both::{added, part};
 use crate::types::type_text;
 use crate::variables::named_list;
 use sqlite_items::Items;
@@ -60,12 +60,8 @@ fn rest_of_operation(reader: &mut Reader<'_>) -> Result<Option<Operation>, NoMem
     ensures refused { IfRefused result (Stops (rest_of pending.operation) reader.old reader.new) }
     ensures shorter { OnRead result (length reader.new < length reader.old) }
 {
-    let Some(head) = named_list(reader, Sort::Small)? else {
-        return Ok(None);
-    };
-    let Some((head, blocks)) = both(head, blocks(reader))? else {
-        return Ok(None);
-    };
+    let head = part!(named_list(reader, Sort::Small));
+    let blocks = part!(blocks(reader));
     let (name, arguments) = head;
     let OperationBlocks {
         answer,
@@ -109,13 +105,9 @@ fn silent(reader: &mut Reader<'_>) -> Result<Option<OperationBlocks>, NoMemory>
         reader.new) }
     ensures shorter { OnRead result (length reader.new < length reader.old) }
 {
-    let Some(spec) = block(reader, BlockKind::Spec)? else {
-        return Ok(None);
-    };
-    let Some(read) = both(spec, silent_code(reader))? else {
-        return Ok(None);
-    };
-    let (spec, (on_crash, implementation)) = read;
+    let spec = part!(block(reader, BlockKind::Spec));
+    let code = part!(silent_code(reader));
+    let (on_crash, implementation) = code;
     Ok(Some(OperationBlocks {
         answer: None,
         spec,
@@ -131,10 +123,9 @@ fn silent_code(reader: &mut Reader<'_>) -> Result<Option<(Option<Block>, Block)>
     ensures refused { IfRefused result (Stops (perhaps pending.on_crash ∷ word_of word.Impl ∷ pending.block Impl ∷ []) reader.old reader.new) }
     ensures shorter { OnRead result (length reader.new < length reader.old) }
 {
-    let Some(on_crash) = crash_case(reader)? else {
-        return Ok(None);
-    };
-    both(on_crash, block(reader, BlockKind::Impl))
+    let on_crash = part!(crash_case(reader));
+    let code = part!(block(reader, BlockKind::Impl));
+    Ok(Some((on_crash, code)))
 }
 
 /// Reads the answer and the blocks of an operation, after the arrow.
@@ -153,13 +144,9 @@ fn answered(reader: &mut Reader<'_>) -> Result<Option<OperationBlocks>, NoMemory
     let Some(_) = reader.keyword(Keyword::Spec) else {
         return Ok(None);
     };
-    let Some(spec) = answering(reader, BlockKind::Spec)? else {
-        return Ok(None);
-    };
-    let Some(read) = both(spec, answering_code(reader))? else {
-        return Ok(None);
-    };
-    let (spec, (on_crash, implementation)) = read;
+    let spec = part!(answering(reader, BlockKind::Spec));
+    let code = part!(answering_code(reader));
+    let (on_crash, implementation) = code;
     Ok(Some(OperationBlocks {
         answer: Some(answer),
         spec,
@@ -175,10 +162,9 @@ fn answering_code(reader: &mut Reader<'_>) -> Result<Option<(Option<Block>, Bloc
     ensures refused { IfRefused result (Stops (perhaps pending.on_crash ∷ word_of word.Impl ∷ pending.answering Impl ∷ []) reader.old reader.new) }
     ensures shorter { OnRead result (length reader.new < length reader.old) }
 {
-    let Some(on_crash) = crash_case(reader)? else {
-        return Ok(None);
-    };
-    both(on_crash, answering(reader, BlockKind::Impl))
+    let on_crash = part!(crash_case(reader));
+    let code = part!(answering(reader, BlockKind::Impl));
+    Ok(Some((on_crash, code)))
 }
 
 /// Reads the block for a crash, where one is written, and the keyword of the implementation.
@@ -188,9 +174,7 @@ fn crash_case(reader: &mut Reader<'_>) -> Result<Option<Option<Block>>, NoMemory
     ensures refused { IfRefused result (Stops (perhaps pending.on_crash ∷ word_of word.Impl ∷ []) reader.old reader.new) }
     ensures shorter { OnRead result (length reader.new < length reader.old) }
 {
-    let Some(on_crash) = on_crash(reader)? else {
-        return Ok(None);
-    };
+    let on_crash = part!(on_crash(reader));
     Ok(reader.keyword_after(on_crash, Keyword::Impl))
 }
 
@@ -207,9 +191,7 @@ fn on_crash(reader: &mut Reader<'_>) -> Result<Option<Option<Block>>, NoMemory>
     let Some(_) = reader.keyword(Keyword::Crash) else {
         return Ok(None);
     };
-    let Some(block) = block(reader, BlockKind::Spec)? else {
-        return Ok(None);
-    };
+    let block = part!(block(reader, BlockKind::Spec));
     Ok(Some(Some(block)))
 }
 
@@ -237,11 +219,7 @@ fn rest_of_tick(reader: &mut Reader<'_>) -> Result<Option<Tick>, NoMemory>
     ensures refused { IfRefused result (Stops (rest_of pending.tick) reader.old reader.new) }
     ensures shorter { OnRead result (length reader.new < length reader.old) }
 {
-    let Some(name) = reader.name()? else {
-        return Ok(None);
-    };
-    let Some((name, body)) = both(name, block(reader, BlockKind::Impl))? else {
-        return Ok(None);
-    };
+    let name = part!(reader.name());
+    let body = part!(block(reader, BlockKind::Impl));
     Ok(Some(Tick { name, body }))
 }

@@ -13,7 +13,7 @@ ghost use Rattle.ygg_read.specs.ExpressionSteps.{Reads, Goes, Stops, IfRead, OnR
 ghost use Rattle.ygg_read.specs.Steps.{ReadsAfter, begins};
 
 use crate::Reader;
-use crate::both::{added, both};
+use crate::both::{added, part};
 use sqlite_items::Items;
 use ygg_base::{Keyword, Mark, Symbol};
 use ygg_list::NoMemory;
@@ -47,9 +47,7 @@ pub fn answer(reader: &mut Reader<'_>) -> Result<Option<Expr>, NoMemory>
     let Some(_) = reader.keyword(Keyword::Return) else {
         return Ok(None);
     };
-    let Some(e) = expression_before(reader, Symbol::Semicolon)? else {
-        return Ok(None);
-    };
+    let e = part!(expression_before(reader, Symbol::Semicolon));
     Ok(reader.symbol_after(e, Symbol::BraceClose))
 }
 
@@ -60,9 +58,7 @@ pub fn expression_before(reader: &mut Reader<'_>, after: Symbol) -> Result<Optio
     ensures refused { IfRefused result (Stops (pending.expression ∷ pending.sign_of after ∷ []) reader.old reader.new) }
     ensures shorter { OnRead result (length reader.new < length reader.old) }
 {
-    let Some(e) = reader.expression()? else {
-        return Ok(None);
-    };
+    let e = part!(reader.expression());
     Ok(reader.symbol_after(e, after))
 }
 
@@ -73,9 +69,7 @@ fn value(reader: &mut Reader<'_>, kind: BlockKind) -> Result<Option<Source>, NoM
     ensures refused { IfRefused result (Stops (pending.right_side kind ∷ pending.sign_of sign.Semicolon ∷ []) reader.old reader.new) }
     ensures shorter { OnRead result (length reader.new < length reader.old) }
 {
-    let Some(source) = reader.source(kind)? else {
-        return Ok(None);
-    };
+    let source = part!(reader.source(kind));
     Ok(reader.symbol_after(source, Symbol::Semicolon))
 }
 
@@ -88,12 +82,8 @@ pub fn binding(reader: &mut Reader<'_>, kind: BlockKind) -> Result<Option<Stmt>,
         []) reader.old reader.new) }
     ensures shorter { OnRead result (length reader.new < length reader.old) }
 {
-    let Some(name) = reader.name_before(Symbol::Assign)? else {
-        return Ok(None);
-    };
-    let Some((name, source)) = both(name, value(reader, kind))? else {
-        return Ok(None);
-    };
+    let name = part!(reader.name_before(Symbol::Assign));
+    let source = part!(value(reader, kind));
     Ok(Some(Stmt::Let(name, source)))
 }
 
@@ -110,9 +100,7 @@ pub fn assignment(
         ∷ pending.sign_of sign.Semicolon ∷ []) reader.old reader.new) }
     ensures shorter { OnRead result (length reader.new < length reader.old) }
 {
-    let Some((name, read)) = both(name, indexed_value(reader, kind))? else {
-        return Ok(None);
-    };
+    let read = part!(indexed_value(reader, kind));
     let (indices, source) = read;
     Ok(Some(Stmt::Assign(name, indices, source)))
 }
@@ -130,13 +118,12 @@ fn indexed_value(
         ∷ pending.sign_of sign.Semicolon ∷ []) reader.old reader.new) }
     ensures shorter { OnRead result (length reader.new < length reader.old) }
 {
-    let Some(indices) = indices(reader)? else {
+    let indices = part!(indices(reader));
+    let Some(_) = reader.symbol(Symbol::Assign) else {
         return Ok(None);
     };
-    let Some(indices) = reader.symbol_after(indices, Symbol::Assign) else {
-        return Ok(None);
-    };
-    both(indices, value(reader, kind))
+    let source = part!(value(reader, kind));
+    Ok(Some((indices, source)))
 }
 
 /// Reads as many indices as come.
@@ -164,9 +151,7 @@ fn index(reader: &mut Reader<'_>, bracket: Place) -> Result<Option<Index>, NoMem
     ensures refused { IfRefused result (Stops (pending.expression ∷ pending.sign_of sign.SquareClose ∷ []) reader.old reader.new) }
     ensures shorter { OnRead result (length reader.new < length reader.old) }
 {
-    let Some(at) = expression_before(reader, Symbol::SquareClose)? else {
-        return Ok(None);
-    };
+    let at = part!(expression_before(reader, Symbol::SquareClose));
     Ok(Some(Index { bracket, at }))
 }
 
@@ -179,9 +164,7 @@ pub fn call(reader: &mut Reader<'_>) -> Result<Option<Stmt>, NoMemory>
         ∷ pending.sign_of sign.Semicolon ∷ []) reader.old reader.new) }
     ensures shorter { OnRead result (length reader.new < length reader.old) }
 {
-    let Some(call) = reader.called()? else {
-        return Ok(None);
-    };
+    let call = part!(reader.called());
     let Some((name, arguments)) = reader.symbol_after(call, Symbol::Semicolon) else {
         return Ok(None);
     };

@@ -17,20 +17,20 @@ pub returns-in_default-clause-goes : goal.returns-in_default-clause-goes
 returns-in_default-clause-goes c =
     λ qs. left_out pending.crash_block c.args.reader.now c.in_default.ensures.other qs ∙ ap (outcome qs) (sym c.in_default.ensures.left)
 
-pub returns-in_default-2-clause-refused : goal.returns-in_default-2-clause-refused
-returns-in_default-2-clause-refused c =
-    let stopped = rw c.in_default-2.is at c.in_ok-block.ensures.refused in
+pub returns-in-Ok-None-clause-refused : goal.returns-in-Ok-None-clause-refused
+returns-in-Ok-None-clause-refused c =
+    let stopped = rw c.in-Ok-None.field-0-is at c.in-Ok-None.ensures.refused in
     λ qs. ap (outcome (perhaps pending.crash_block ∷ qs)) c.in-Some.ensures.taken
     ∙ begins_perhaps pending.crash_block c.in-Some.place c.keyword.new.self qs ∙ stopped qs
 
 pub returns-clause-reads : goal.returns-clause-reads
 returns-clause-reads c =
-    let read = rw c.in-Some-2.is at c.in_ok-block.ensures.reads in
-    λ qs. ap (in_turn (crash_block c.in-Some.place c.in-Some-2.block ∷ qs)) c.in-Some.ensures.taken
-    ∙ reads_crash c.in-Some.place c.in-Some-2.block c.keyword.new.self qs ∙ read qs
+    let first = rw c.in-Ok-Some.field-0-is at c.in-Ok-Some.ensures.reads in
+    λ qs. ap (in_turn (crash_block c.in-Some.place c.in-Ok-Some.part ∷ qs)) c.in-Some.ensures.taken
+    ∙ reads_crash c.in-Some.place c.in-Ok-Some.part c.keyword.new.self qs ∙ first qs
 
 pub returns-clause-goes : goal.returns-clause-goes
 returns-clause-goes c =
-    let gone = rw c.in-Some-2.is at c.in_ok-block.ensures.goes in
+    let gone = rw c.in-Ok-Some.field-0-is at c.in-Ok-Some.ensures.goes in
     λ qs. ap (outcome (perhaps pending.crash_block ∷ qs)) c.in-Some.ensures.taken
     ∙ begins_perhaps pending.crash_block c.in-Some.place c.keyword.new.self qs ∙ gone qs

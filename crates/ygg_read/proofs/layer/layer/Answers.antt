@@ -5,25 +5,22 @@ use Rattle.ygg_read.specs.Parts.{setup_pending, setup_read, steps_pending, steps
 use Rattle.ygg_read.proofs.Files.{reads_layer}
 use Rattle.ygg_read.proofs.layer.layer.Goals as goal
 
-pub returns-in_default-2-clause-refused : goal.returns-in_default-2-clause-refused
-returns-in_default-2-clause-refused c =
-    let name = rw c.in-Some.is at c.in_ok-name.ensures.goes in
-    let none = rw c.in_default-2.is at c.in_ok-name-2.ensures.refused in
-    let stopped = rw none at c.parts.ensures.refused in
-    λ qs. name (setup_pending ++ (steps_pending ++ (claims_pending ++ qs))) ∙ stopped qs
+pub returns-in-Ok-None-parts-clause-refused : goal.returns-in-Ok-None-parts-clause-refused
+returns-in-Ok-None-parts-clause-refused c =
+    let gone = rw c.in-Ok-Some.field-0-is at c.in-Ok-Some.ensures.goes in
+    let stopped = rw c.in-Ok-None-parts.field-0-is at c.in-Ok-None-parts.ensures.refused in
+    λ qs. gone (setup_pending ++ (steps_pending ++ (claims_pending ++ qs))) ∙ stopped qs
 
 pub returns-clause-reads : goal.returns-clause-reads
 returns-clause-reads c =
-    let both = rw c.in-Some-2.is at c.in_ok-name-2.ensures.read in
-    let first = rw c.in-Some.is at c.in_ok-name.ensures.reads in
-    let name = rw both.0 at first in
-    let parts = rw both.1 at c.parts.ensures.reads in
-    let s = c.in-Some-2.parts.0 in
-    let t = c.in-Some-2.parts.1.0 in
-    let u = c.in-Some-2.parts.1.1 in
+    let first = rw c.in-Ok-Some.field-0-is at c.in-Ok-Some.ensures.reads in
+    let second = rw c.in-Ok-Some-parts.field-0-is at c.in-Ok-Some-parts.ensures.reads in
+    let s = c.in-Ok-Some-parts.part.0 in
+    let t = c.in-Ok-Some-parts.part.1.0 in
+    let u = c.in-Ok-Some-parts.part.1.1 in
     let l : Layer = record {
       place = c.args.place;
-      name = c.in-Some-2.name;
+      name = c.in-Ok-Some.part;
       state = s.state;
       start = s.start;
       memory = s.memory;
@@ -38,11 +35,11 @@ returns-clause-reads c =
       settled = u.settled;
       maybe = u.maybe;
     } in
-    λ qs. reads_layer l c.args.reader.now qs ∙ name (setup_read s ++ (steps_read t ++ (claims_read u ++ qs))) ∙ parts qs
+    λ qs. reads_layer l c.args.reader.now qs ∙ first (setup_read s ++ (steps_read t ++ (claims_read u ++ qs)))
+    ∙ second qs
 
 pub returns-clause-goes : goal.returns-clause-goes
 returns-clause-goes c =
-    let both = rw c.in-Some-2.is at c.in_ok-name-2.ensures.read in
-    let name = rw c.in-Some.is at c.in_ok-name.ensures.goes in
-    let parts = rw both.1 at c.parts.ensures.goes in
-    λ qs. name (setup_pending ++ (steps_pending ++ (claims_pending ++ qs))) ∙ parts qs
+    let gone = rw c.in-Ok-Some.field-0-is at c.in-Ok-Some.ensures.goes in
+    let rest = rw c.in-Ok-Some-parts.field-0-is at c.in-Ok-Some-parts.ensures.goes in
+    λ qs. gone (setup_pending ++ (steps_pending ++ (claims_pending ++ qs))) ∙ rest qs

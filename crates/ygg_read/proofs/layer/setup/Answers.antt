@@ -8,29 +8,32 @@ use Rattle.ygg_syntax.specs.Pending.{perhaps, repeated}
 use Rattle.ygg_syntax.specs.Pending as pending
 use Rattle.ygg_read.proofs.layer.setup.Goals as goal
 
-pub returns-in_default-2-clause-refused : goal.returns-in_default-2-clause-refused
-returns-in_default-2-clause-refused c =
-    let gone = rw c.in-Some.is at c.in_ok-seen.ensures.goes in
-    let none = rw c.in_default-2.is at c.in_ok-read.ensures.refused in
-    let stopped = rw none at c.variables_and_block-unseen.ensures.refused in
+pub returns-in-Ok-None-clause-refused : goal.returns-in-Ok-None-clause-refused
+returns-in-Ok-None-clause-refused c =
+    let stopped = rw c.in-Ok-None.field-0-is at c.in-Ok-None.ensures.refused in
+    λ qs. stopped pending.state_variable refl refl pending.start_block refl refl
+    (repeated pending.memory_variable ∷ perhaps pending.format_block ∷ qs)
+
+pub returns-in-Ok-None-variables_and_block-clause-refused : goal.returns-in-Ok-None-variables_and_block-clause-refused
+returns-in-Ok-None-variables_and_block-clause-refused c =
+    let gone = rw c.in-Ok-Some.field-0-is at c.in-Ok-Some.ensures.goes in
+    let stopped = rw c.in-Ok-None-variables_and_block.field-0-is at c.in-Ok-None-variables_and_block.ensures.refused in
     λ qs. gone pending.state_variable refl refl pending.start_block refl refl
     (repeated pending.memory_variable ∷ perhaps pending.format_block ∷ qs)
     ∙ stopped pending.memory_variable refl refl pending.format_block refl refl qs
 
 pub returns-clause-reads : goal.returns-clause-reads
 returns-clause-reads c =
-    let read = c.in-Some-2.read in
-    let parts = rw c.in-Some-2.is at c.in_ok-read.ensures.read in
-    let whole = rw c.in-Some.is at c.in_ok-seen.ensures.reads in
-    let first = rw parts.0 at whole in
-    let rest = rw parts.1 at c.variables_and_block-unseen.ensures.reads in
-    λ qs. first (in_turn (map (variable word.Memory) read.1.0) ∷ optional word.Format Impl read.1.1 ∷ qs) ∙ rest qs
+    let first = rw c.in-Ok-Some.field-0-is at c.in-Ok-Some.ensures.reads in
+    let second = rw c.in-Ok-Some-variables_and_block.field-0-is at c.in-Ok-Some-variables_and_block.ensures.reads in
+    let unseen = c.in-Ok-Some-variables_and_block.part in
+    λ qs. first (in_turn (map (variable word.Memory) unseen.0) ∷ optional word.Format Impl unseen.1 ∷ qs)
+    ∙ second qs
 
 pub returns-clause-goes : goal.returns-clause-goes
 returns-clause-goes c =
-    let parts = rw c.in-Some-2.is at c.in_ok-read.ensures.read in
-    let gone = rw c.in-Some.is at c.in_ok-seen.ensures.goes in
-    let rest = rw parts.1 at c.variables_and_block-unseen.ensures.goes in
+    let gone = rw c.in-Ok-Some.field-0-is at c.in-Ok-Some.ensures.goes in
+    let rest = rw c.in-Ok-Some-variables_and_block.field-0-is at c.in-Ok-Some-variables_and_block.ensures.goes in
     λ qs. gone pending.state_variable refl refl pending.start_block refl refl
     (repeated pending.memory_variable ∷ perhaps pending.format_block ∷ qs)
     ∙ rest pending.memory_variable refl refl pending.format_block refl refl qs

@@ -1,33 +1,24 @@
-use Rattle.std.proofs.Common.{◌∷◌, ◌∙◌, refl, arith}
+use Rattle.std.proofs.Common.{◌∷◌, ◌∙◌, refl}
 use Rattle.ygg_base.specs.declared.token.Keyword.TheVariants as word
 use Rattle.ygg_syntax.specs.declared.grammar.BlockKind.TheVariants.{Impl}
 use Rattle.ygg_syntax.specs.Blocks.{optional}
 use Rattle.ygg_syntax.specs.Pending.{perhaps, recover_block}
-use Rattle.ygg_read.proofs.Results.{where_joined, where_joined_gone, where_joined_refused}
 use Rattle.ygg_read.proofs.layer.ticks_and_recover.Goals as goal
 
-pub returns-clause-refused : goal.returns-clause-refused
-returns-clause-refused c =
-    let gone = rw c.in-Some.is at c.in_ok-all.ensures.goes in
-    where_joined_refused c.optional.result c.both.result _ _ c.both.ensures.refused c.optional.ensures.refused
-    (λ stopped qs. gone (perhaps recover_block ∷ qs) ∙ stopped recover_block refl refl qs)
+pub returns-in-Ok-None-optional-clause-refused : goal.returns-in-Ok-None-optional-clause-refused
+returns-in-Ok-None-optional-clause-refused c =
+    let gone = rw c.in-Ok-Some.field-0-is at c.in-Ok-Some.ensures.goes in
+    let stopped = rw c.in-Ok-None-optional.field-0-is at c.in-Ok-None-optional.ensures.refused in
+    λ qs. gone (perhaps recover_block ∷ qs) ∙ stopped recover_block refl refl qs
 
 pub returns-clause-reads : goal.returns-clause-reads
 returns-clause-reads c =
-    let whole = rw c.in-Some.is at c.in_ok-all.ensures.reads in
-    where_joined c.in-Some.all c.optional.result c.both.result _ c.both.ensures.read (λ read is next.
-    let first = rw is at whole in
-    let rest = rw next at c.optional.ensures.reads in
-    λ qs. first (optional word.Recover Impl read.1 ∷ qs) ∙ rest qs)
+    let first = rw c.in-Ok-Some.field-0-is at c.in-Ok-Some.ensures.reads in
+    let second = rw c.in-Ok-Some-optional.field-0-is at c.in-Ok-Some-optional.ensures.reads in
+    λ qs. first (optional word.Recover Impl c.in-Ok-Some-optional.part ∷ qs) ∙ second qs
 
 pub returns-clause-goes : goal.returns-clause-goes
 returns-clause-goes c =
-    let gone = rw c.in-Some.is at c.in_ok-all.ensures.goes in
-    where_joined_gone c.in-Some.all c.optional.result c.both.result _ _ c.both.ensures.read c.optional.ensures.goes
-    (λ rest qs. gone (perhaps recover_block ∷ qs) ∙ rest recover_block refl refl qs)
-
-pub returns-clause-shorter : goal.returns-clause-shorter
-returns-clause-shorter c =
-    let before = rw c.in-Some.is at c.in_ok-all.ensures.shorter in
-    where_joined_gone c.in-Some.all c.optional.result c.both.result _ _ c.both.ensures.read c.optional.ensures.shorter
-    (λ shorter. omega (arith, before, shorter))
+    let gone = rw c.in-Ok-Some.field-0-is at c.in-Ok-Some.ensures.goes in
+    let rest = rw c.in-Ok-Some-optional.field-0-is at c.in-Ok-Some-optional.ensures.goes in
+    λ qs. gone (perhaps recover_block ∷ qs) ∙ rest recover_block refl refl qs

@@ -8,21 +8,21 @@ use Rattle.ygg_read.proofs.operations.crash_case.Goals as goal
 
 pub returns-clause-reads : goal.returns-clause-reads
 returns-clause-reads c =
-    let first = rw c.in-Some.is at c.in_ok-on_crash.ensures.reads in
-    where_same c.in-Some.on_crash c.keyword_after.result _ _ c.keyword_after.ensures.same c.keyword_after.ensures.reads
+    let first = rw c.in-Ok-Some.field-0-is at c.in-Ok-Some.ensures.reads in
+    where_same c.in-Ok-Some.part c.keyword_after.result _ _ c.keyword_after.ensures.same c.keyword_after.ensures.reads
     (λ read qs. first (keyword word.Impl ∷ qs) ∙ read qs)
 
 pub returns-clause-goes : goal.returns-clause-goes
 returns-clause-goes c =
-    let first = rw c.in-Some.is at c.in_ok-on_crash.ensures.goes in
+    let first = rw c.in-Ok-Some.field-0-is at c.in-Ok-Some.ensures.goes in
     where_some c.keyword_after.result _ _ (λ gone qs. first (word_of word.Impl ∷ qs) ∙ gone qs) c.keyword_after.ensures.goes
 
 pub returns-clause-refused : goal.returns-clause-refused
 returns-clause-refused c =
-    let first = rw c.in-Some.is at c.in_ok-on_crash.ensures.goes in
+    let first = rw c.in-Ok-Some.field-0-is at c.in-Ok-Some.ensures.goes in
     if_none c.keyword_after.result _ _ (λ stopped qs. first (word_of word.Impl ∷ qs) ∙ stopped qs) c.keyword_after.ensures.refused
 
 pub returns-clause-shorter : goal.returns-clause-shorter
 returns-clause-shorter c =
-    let before = rw c.in-Some.is at c.in_ok-on_crash.ensures.shorter in
+    let before = rw c.in-Ok-Some.field-0-is at c.in-Ok-Some.ensures.shorter in
     where_some c.keyword_after.result _ _ (λ shorter. omega (arith, before, shorter)) c.keyword_after.ensures.shorter

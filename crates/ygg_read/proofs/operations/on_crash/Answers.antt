@@ -23,21 +23,22 @@ returns-in_default-keyword-clause-refused c =
     λ qs. ap (outcome (perhaps pending.on_crash ∷ qs)) c.in-Some.ensures.taken ∙ begins_perhaps pending.on_crash c.in-Some.field-0 c.keyword.new.self qs
     ∙ c.in_default-keyword.ensures.refused (pending.block Spec ∷ qs)
 
-pub returns-in_default-2-clause-refused : goal.returns-in_default-2-clause-refused
-returns-in_default-2-clause-refused c =
-    let stopped = rw c.in_default-2.is at c.in_ok-block.ensures.refused in
+pub returns-in-Ok-None-clause-refused : goal.returns-in-Ok-None-clause-refused
+returns-in-Ok-None-clause-refused c =
+    let stopped = rw c.in-Ok-None.field-0-is at c.in-Ok-None.ensures.refused in
     λ qs. ap (outcome (perhaps pending.on_crash ∷ qs)) c.in-Some.ensures.taken ∙ begins_perhaps pending.on_crash c.in-Some.field-0 c.keyword.new.self qs
     ∙ c.in-Some-keyword.ensures.goes (pending.block Spec ∷ qs) ∙ stopped qs
 
 pub returns-clause-reads : goal.returns-clause-reads
 returns-clause-reads c =
-    let b = c.in-Some-2.block in
-    let read = rw c.in-Some-2.is at c.in_ok-block.ensures.reads in
+    let first = rw c.in-Ok-Some.field-0-is at c.in-Ok-Some.ensures.reads in
+    let b = c.in-Ok-Some.part in
     λ qs. joined (keyword word.On ∷ keyword word.Crash ∷ block Spec b ∷ []) qs c.args.reader.now
-    ∙ c.in-Some.ensures.reads (keyword word.Crash ∷ block Spec b ∷ qs) ∙ c.in-Some-keyword.ensures.reads (block Spec b ∷ qs) ∙ read qs
+    ∙ c.in-Some.ensures.reads (keyword word.Crash ∷ block Spec b ∷ qs) ∙ c.in-Some-keyword.ensures.reads (block Spec b ∷ qs)
+    ∙ first qs
 
 pub returns-clause-goes : goal.returns-clause-goes
 returns-clause-goes c =
-    let gone = rw c.in-Some-2.is at c.in_ok-block.ensures.goes in
+    let gone = rw c.in-Ok-Some.field-0-is at c.in-Ok-Some.ensures.goes in
     λ qs. ap (outcome (perhaps pending.on_crash ∷ qs)) c.in-Some.ensures.taken ∙ begins_perhaps pending.on_crash c.in-Some.field-0 c.keyword.new.self qs
     ∙ c.in-Some-keyword.ensures.goes (pending.block Spec ∷ qs) ∙ gone qs

@@ -12,25 +12,24 @@ use Rattle.ygg_read.proofs.operations.silent.Goals as goal
 
 pub returns-clause-reads : goal.returns-clause-reads
 returns-clause-reads c =
-    let read = c.in-Some-2.read in
-    let parts = rw c.in-Some-2.is at c.in_ok-read.ensures.read in
-    let first = rw c.in-Some.is at c.in_ok-spec.ensures.reads in
-    let spec = rw parts.0 at first in
-    let code = rw parts.1 at c.silent_code.ensures.reads in
+    let first = rw c.in-Ok-Some.field-0-is at c.in-Ok-Some.ensures.reads in
+    let second = rw c.in-Ok-Some-silent_code.field-0-is at c.in-Ok-Some-silent_code.ensures.reads in
+    let spec = c.in-Ok-Some.part in
+    let code = c.in-Ok-Some-silent_code.part in
     λ x arguments at qs.
-    opened (mark.Keyword word.Spec) (block Spec read.0 ∷ on_crash read.1.0 ∷ keyword word.Impl ∷ block Impl read.1.1 ∷ []) at c.args.reader.now qs
-    ∙ spec (on_crash read.1.0 ∷ keyword word.Impl ∷ block Impl read.1.1 ∷ qs) ∙ code qs
+    opened (mark.Keyword word.Spec) (block Spec spec ∷ on_crash code.0 ∷ keyword word.Impl ∷ block Impl code.1 ∷ []) at c.args.reader.now qs
+    ∙ first (on_crash code.0 ∷ keyword word.Impl ∷ block Impl code.1 ∷ qs) ∙ second qs
 
-pub returns-in_default-2-clause-refused : goal.returns-in_default-2-clause-refused
-returns-in_default-2-clause-refused c =
-    let gone = rw c.in-Some.is at c.in_ok-spec.ensures.goes in
-    let none = rw c.in_default-2.is at c.in_ok-read.ensures.refused in
-    let stopped = rw none at c.silent_code.ensures.refused in
-    λ qs. gone (perhaps pending.on_crash ∷ word_of word.Impl ∷ pending.block Impl ∷ qs) ∙ stopped qs
+pub returns-in-Ok-None-silent_code-clause-refused : goal.returns-in-Ok-None-silent_code-clause-refused
+returns-in-Ok-None-silent_code-clause-refused c =
+    let gone = rw c.in-Ok-Some.field-0-is at c.in-Ok-Some.ensures.goes in
+    let stopped = rw c.in-Ok-None-silent_code.field-0-is at c.in-Ok-None-silent_code.ensures.refused in
+    λ qs. gone (perhaps pending.on_crash ∷ word_of word.Impl ∷ pending.block Impl ∷ qs)
+    ∙ stopped qs
 
 pub returns-clause-goes : goal.returns-clause-goes
 returns-clause-goes c =
-    let parts = rw c.in-Some-2.is at c.in_ok-read.ensures.read in
-    let gone = rw c.in-Some.is at c.in_ok-spec.ensures.goes in
-    let rest = rw parts.1 at c.silent_code.ensures.goes in
-    λ qs. gone (perhaps pending.on_crash ∷ word_of word.Impl ∷ pending.block Impl ∷ qs) ∙ rest qs
+    let gone = rw c.in-Ok-Some.field-0-is at c.in-Ok-Some.ensures.goes in
+    let rest = rw c.in-Ok-Some-silent_code.field-0-is at c.in-Ok-Some-silent_code.ensures.goes in
+    λ qs. gone (perhaps pending.on_crash ∷ word_of word.Impl ∷ pending.block Impl ∷ qs)
+    ∙ rest qs

@@ -6,7 +6,6 @@ use Rattle.ygg_read.proofs.parts.call.Goals as goal
 
 pub returns-clause-reads : goal.returns-clause-reads
 returns-clause-reads c =
-    let first = rw c.in-Some.is at c.in_ok-call.ensures.reads in
-    let read = rw c.in-Some-symbol_after.ensures.same at first in
-    λ at qs. reads_call c.in-Some-symbol_after.name c.in-Some-symbol_after.arguments at c.args.reader.now qs
-    ∙ read (symbol sign.Semicolon ∷ qs) ∙ c.in-Some-symbol_after.ensures.reads qs
+    let first = rw c.in-Ok-Some.field-0-is at c.in-Ok-Some.ensures.reads in
+    let read = rw c.in-Some.ensures.same at first in
+    λ at qs. reads_call c.in-Some.name c.in-Some.arguments at c.args.reader.now qs ∙ read (symbol sign.Semicolon ∷ qs) ∙ c.in-Some.ensures.reads qs

@@ -7,21 +7,21 @@ use Rattle.ygg_read.proofs.parts.expression_before.Goals as goal
 
 pub returns-clause-reads : goal.returns-clause-reads
 returns-clause-reads c =
-    let first = rw c.in-Some.is at c.in_ok-e.ensures.reads in
-    where_same c.in-Some.e c.symbol_after.result _ _ c.symbol_after.ensures.same c.symbol_after.ensures.reads
+    let first = rw c.in-Ok-Some.field-0-is at c.in-Ok-Some.ensures.reads in
+    where_same c.in-Ok-Some.part c.symbol_after.result _ _ c.symbol_after.ensures.same c.symbol_after.ensures.reads
     (λ read qs. first (symbol c.args.after ∷ qs) ∙ read qs)
 
 pub returns-clause-goes : goal.returns-clause-goes
 returns-clause-goes c =
-    let first = rw c.in-Some.is at c.in_ok-e.ensures.goes in
+    let first = rw c.in-Ok-Some.field-0-is at c.in-Ok-Some.ensures.goes in
     where_some c.symbol_after.result _ _ (λ gone qs. first (sign_of c.args.after ∷ qs) ∙ gone qs) c.symbol_after.ensures.goes
 
 pub returns-clause-refused : goal.returns-clause-refused
 returns-clause-refused c =
-    let first = rw c.in-Some.is at c.in_ok-e.ensures.goes in
+    let first = rw c.in-Ok-Some.field-0-is at c.in-Ok-Some.ensures.goes in
     if_none c.symbol_after.result _ _ (λ stopped qs. first (sign_of c.args.after ∷ qs) ∙ stopped qs) c.symbol_after.ensures.refused
 
 pub returns-clause-shorter : goal.returns-clause-shorter
 returns-clause-shorter c =
-    let before = rw c.in-Some.is at c.in_ok-e.ensures.shorter in
+    let before = rw c.in-Ok-Some.field-0-is at c.in-Ok-Some.ensures.shorter in
     where_some c.symbol_after.result _ _ (λ shorter. omega (arith, before, shorter)) c.symbol_after.ensures.shorter

@@ -5,41 +5,12 @@ use Rattle.ygg_base.specs.declared.token.Symbol.TheVariants as sign
 use Rattle.ygg_syntax.specs.Expressions.{Phrase, phrase, expr, keyword, named, numbered, any, some, symbol}
 use Rattle.ygg_syntax.specs.Reading.{in_turn}
 use Rattle.ygg_syntax.specs.Pending.{exactly, name, number, operator, expression, more_expressions, rest_of_arguments, arguments, indices, sign_of, outcome}
-use Rattle.ygg_read.proofs.ExpressionBegins.{
-  begins_index,
-  begins_not,
-  begins_no_arguments,
-  begins_more,
-  begins_name,
-  begins_arguments,
-  begins_binary,
-  begins_pick,
-  begins_resize,
-  begins_fill,
-  begins_row,
-  begins_quantified,
-}
+use Rattle.ygg_read.proofs.ExpressionBegins.{begins_index, begins_not, begins_no_arguments, begins_more, begins_name, begins_arguments}
+use Rattle.ygg_read.proofs.ExpressionBegins.{begins_binary, begins_pick, begins_resize, begins_fill, begins_row, begins_quantified}
 use Rattle.ygg_read.proofs.ExpressionLists.{index_more, first_read, one_more, all_read, all_filled}
-use Rattle.ygg_read.proofs.ExpressionPhrases.{
-  parts_variable,
-  parts_apply,
-  parts_binary,
-  parts_pick,
-  parts_resize,
-  parts_fill,
-  parts_row,
-  parts_quantified,
-  reads_nothing,
-  reads_not,
-  reads_variable,
-  reads_apply,
-  reads_binary,
-  reads_pick,
-  reads_resize,
-  reads_fill,
-  reads_row,
-  reads_quantified,
-}
+use Rattle.ygg_read.proofs.ExpressionPhrases.{parts_variable, parts_apply, parts_binary, parts_pick, parts_resize, parts_fill}
+use Rattle.ygg_read.proofs.ExpressionPhrases.{parts_row, parts_quantified, reads_nothing, reads_not, reads_variable, reads_apply}
+use Rattle.ygg_read.proofs.ExpressionPhrases.{reads_binary, reads_pick, reads_resize, reads_fill, reads_row, reads_quantified}
 use Rattle.ygg_read.proofs.Answered.{if_none}
 use Rattle.ygg_read.proofs.Results.{where_both, where_gone, where_refused, where_some, where_same}
 use Rattle.ygg_read.proofs.Stopped.{stopped_expression, dropped_indices, dropped_arguments, dropped_more, some_argument}
