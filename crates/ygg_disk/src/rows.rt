@@ -21,7 +21,8 @@ pub fn zero_row(alloc: Global, geometry: Geometry) -> Result<Row, NoMemory>
 /// A table of zeros of the disk's size. Its only error is out of memory.
 pub fn zero_table(alloc: Global, geometry: Geometry) -> Result<Table, NoMemory>
     requires { IsShape (table_shape geometry) }
-    ensures { IfOk result (λ table. table ≡ zeros_of geometry) }
+    ensures zeros { IfOk result (λ table. table ≡ zeros_of geometry) }
+    ensures size { IfOk result (λ table. HasSize geometry table) }
 {
     ygg_value::zero_table(alloc, geometry.rows, geometry.words, geometry.width)
 }

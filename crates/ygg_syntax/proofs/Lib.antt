@@ -2,3 +2,4 @@ pub mod Limits
 pub mod Searched
 pub mod Tables
 pub mod Sames
+pub mod Paired

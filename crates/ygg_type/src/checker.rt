@@ -121,10 +121,11 @@ impl<'a> Typer<'a> {
         ensures scope { OnOk result (scope_of self.new ≡ with_local name.now shape assignable (scope_of self.old)) }
         ensures first { OnOk result (self.new.first ≡ self.old.first) }
     {
-        if !self.variables.has(name) {
-            self.locals.add(name, Local { shape, assignable })?;
+        if self.variables.has(name) {
+            Ok(())
+        } else {
+            self.locals.add(name, Local { shape, assignable })
         }
-        Ok(())
     }
 
     /// Keeps the first so many local names.

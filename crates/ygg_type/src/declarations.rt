@@ -50,9 +50,9 @@ pub fn viewed<'a>(
 {
     let before = checker.view;
     checker.view = view;
-    body(checker, b, shape, weights.block(b))?;
+    let done = body(checker, b, shape, weights.block(b));
     checker.view = before;
-    Ok(())
+    done
 }
 
 /// An expression of a layer with this view of it, which is to be a word of width 1.
@@ -69,7 +69,7 @@ pub fn formula<'a>(
 {
     let before = checker.view;
     checker.view = view;
-    checker.claim(e, Some(Shape::Word { width: 1 }), weights.expression(e))?;
+    let done = checker.claim(e, Some(Shape::Word { width: 1 }), weights.expression(e));
     checker.view = before;
-    Ok(())
+    done
 }

@@ -126,9 +126,9 @@ impl<'a> Typer<'a> {
     {
         let before = self.locals.len();
         self.add_local(x.text.as_slice(), shapes::word(w.value), false)?;
-        let part = self.infer(e)?;
+        let part = self.infer(e);
         self.forget(before);
-        Ok(part)
+        part
     }
 
     /// Finds the type errors of expressions, and what they are to those around them. Its only error is out of memory.

@@ -94,10 +94,10 @@ fn on_crash<'a>(
         (on_crash_errors block.now (weights_of weights.now) (scope_of checker.old))) }
     ensures same { OnOk result (scope_of checker.new ≡ scope_of checker.old) }
 {
-    if let Some(block) = block {
-        viewed(checker, weights, Visibility::Specification, block, None)?;
+    match block {
+        None => Ok(()),
+        Some(block) => viewed(checker, weights, Visibility::Specification, block, None),
     }
-    Ok(())
 }
 
 /// An operation after these of its layer, which has this `crash` block; its arguments stay in scope.

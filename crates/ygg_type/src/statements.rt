@@ -210,20 +210,17 @@ fn statement<'a>(checker: &mut Typer<'a>, one: &'a Stmt) -> Result<(), NoMemory>
     match one {
         Stmt::Let(x, from) => binding(checker, x, from),
         Stmt::Assign(x, indices, from) => {
-            assignment(checker, x, lists::index::as_slice(indices), from)?;
-            Ok(())
+            assignment(checker, x, lists::index::as_slice(indices), from)
         }
         Stmt::If(test, first, second) => {
             checker.expect(test, Some(Shape::Word { width: 1 }))?;
             block(checker, first, None)?;
-            block(checker, second, None)?;
-            Ok(())
+            block(checker, second, None)
         }
         Stmt::For(x, w, n, each) => {
             let taken = checker.is_taken(x.text.as_slice());
             checker.first.number(x, taken, *w, *n);
-            repeated(checker, x, *w, each)?;
-            Ok(())
+            repeated(checker, x, *w, each)
         }
         Stmt::Call(f, arguments) => {
             call(checker, f.place, false, f, lists::expr::as_slice(arguments))?;
@@ -255,8 +252,7 @@ fn inside<'a>(checker: &mut Typer<'a>, b: &'a Block, shape: Option<Shape>) -> Re
     ensures grows { OnOk result (Grows (scope_of checker.old) (scope_of checker.new)) }
 {
     statements(checker, lists::stmt::as_slice(&b.statements))?;
-    answer(checker, &b.answer, shape)?;
-    Ok(())
+    answer(checker, &b.answer, shape)
 }
 
 /// A block, with an answer of this shape where one is wanted. Its only error is out of memory.
@@ -267,9 +263,9 @@ fn block<'a>(checker: &mut Typer<'a>, b: &'a Block, shape: Option<Shape>) -> Res
     ensures same { OnOk result (scope_of checker.new ≡ scope_of checker.old) }
 {
     let outside = checker.locals.len();
-    inside(checker, b, shape)?;
+    let done = inside(checker, b, shape);
     checker.forget(outside);
-    Ok(())
+    done
 }
 
 /// The block of a loop, with its number.
@@ -287,9 +283,9 @@ fn repeated<'a>(
 {
     let before = checker.locals.len();
     checker.add_local(x.text.as_slice(), shapes::word(w.value), false)?;
-    block(checker, each, None)?;
+    let done = block(checker, each, None);
     checker.forget(before);
-    Ok(())
+    done
 }
 
 /// A block that stands in no other, with an answer of this shape where one is wanted, and that has this weight. Its only
