@@ -1,5 +1,6 @@
 -- Names of two lists that go together are merged one by one.
-use Rattle.std.proofs.Common.{◌≡◌, ◌<◌, ℕ, zero, suc, List, [], ◌∷◌, length, get_or, refl, sym, ap, ◌∙◌, subst, arith}
+use Rattle.std.proofs.Common.{◌≡◌, ◌<◌, ◌≤◌, ℕ, zero, suc, List, [], ◌∷◌, length, get_or, refl, sym, ap, ◌∙◌, subst, arith}
+use Rattle.std.proofs.lemmas.List.{length-map}
 use Rattle.ygg_sym_runs.specs.ygg_rules.declared.rule.RuleKind.{RuleKind}
 use Rattle.ygg_sym_runs.specs.ygg_bank.Makes.{Out}
 use Rattle.ygg_sym_runs.specs.ygg_bank_proofs_Widths.{wider}
@@ -43,6 +44,10 @@ alike_at old new (z ∷ xs) (w ∷ ys) zero x dx y dy g a l c e f =
     (subst (λ k. AreAlike new z.value k) (sym (ap (λ (b : SymBinding). b.value) f)) (alike_wider old new z.value w.value g a.0))
 alike_at old new (z ∷ xs) (w ∷ ys) (suc i) x dx y dy g a l c e f =
     alike_at old new xs ys i x dx y dy g a.1 (omega (arith, l)) (omega (arith, c)) e f
+
+-- at the end of a list, all of its names are seen
+pub all_named : (names : List SymBinding) (i : ℕ) → length names ≤ i → length (env_of names) ≤ i
+all_named names i l = let size : length (env_of names) ≡ length names = length-map names (λ b. (b.name.now, b.value)) in omega (arith, size, l)
 
 -- both ways to say it
 pub joined_same : {S : Type 0} (kinds : List RuleKind) (terms : SymFunctions) (M : SymMachine S) (t : Id) (xs ys : SymEnv) (nodes : List Node) →

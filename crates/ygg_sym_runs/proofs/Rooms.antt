@@ -73,3 +73,7 @@ counts_product None a n m h e = too_much (a * n) (n * m) (ap (λ z. z * n) e ∙
 -- a count of what is as much
 pub counts_as : (m n : ℕ) (r : Option ℕ) → m ≡ n → Counts m r → Counts n r
 counts_as m n r e h = subst (λ k. Counts k r) e h
+
+-- a count that is 2^64 or more is none
+pub counts_none : (n : ℕ) (r : Option ℕ) → r ≡ None → 2 ^ 64 ≤ n → Counts n r
+counts_none n r none l = subst (Counts n) (sym none) l

@@ -1,14 +1,14 @@
 use Rattle.std.proofs.Common.{◌≡◌, ◌<◌, ◌+◌, ◌++◌, ◌∷◌, [], length, get_or, ap, sym, ◌∙◌, subst, arith}
 use Rattle.std.proofs.lemmas.List.{get_or-map, length-map, map-append}
 use Rattle.ygg_meaning_laws.specs.ygg_meaning.Environments.{Name}
-use Rattle.ygg_sym_runs.specs.ygg_bank_proofs_Widths.{wider, extends_both}
-use Rattle.ygg_sym_runs.proofs.of_ygg_shape.Steps.{EachTwo, each_two_goes}
+use Rattle.ygg_sym_runs.specs.ygg_bank_proofs_Widths.{wider, extends_self, extends_both}
+use Rattle.ygg_sym_runs.proofs.of_ygg_shape.Steps.{EachTwo, each_two_begins, each_two_goes, each_two_value, each_two_nodes}
 use Rattle.ygg_sym_runs.specs.ygg_shape_cells.declared.terms.SymValue.{SymValue}
 use Rattle.ygg_sym_runs.specs.Names.{SymEnv}
 use Rattle.ygg_sym_runs.specs.Seen.{env_of}
 use Rattle.ygg_sym_runs.specs.declared.held.SymBinding.{SymBinding}
 use Rattle.ygg_sym_runs.specs.Ready.{joined_name}
-use Rattle.ygg_sym_runs.proofs.Joined.{alike_at}
+use Rattle.ygg_sym_runs.proofs.Joined.{alike_at, all_named}
 use Rattle.ygg_sym_runs.proofs.names.join_names.Goals as goal
 
 pub merge-requires-clause-test : goal.merge-requires-clause-test
@@ -64,3 +64,25 @@ returns-in_err-value-clause-grows g c =
 pub returns-in_err-push-clause-grows : goal.returns-in_err-push-clause-grows
 returns-in_err-push-clause-grows g c =
     extends_both c.args.bank.now c.loop-place.bank c.merge.new.bank c.loop-place.invariant.grows c.merge.ensures.grows
+
+pub loop-place-init : goal.loop-place-init
+loop-place-init g c =
+    let step = joined_name (g.B.Book.kinds c.args.book.now) c.args.test in
+    let yes = env_of c.args.yes.now in
+    let no = env_of c.args.no.now in
+    let old = c.args.bank.now in
+    record {
+      went = subst (λ (z : SymEnv). EachTwo step yes no old 0 z old) (sym (ap env_of c.new-names.ensures.items)) (each_two_begins step yes no old);
+      grows = extends_self old;
+      bank = c.requires.bank;
+    }
+
+pub returns-clause-nodes : goal.returns-clause-nodes
+returns-clause-nodes g c =
+    each_two_nodes (joined_name (g.B.Book.kinds c.args.book.now) c.args.test) (env_of c.args.yes.now) (env_of c.args.no.now) c.args.bank.now c.loop-place.place
+    (env_of c.loop-place.names.items) c.loop-place.bank (all_named c.args.yes.now c.loop-place.place c.loop-place-test.false) c.loop-place.invariant.went
+
+pub returns-clause-form : goal.returns-clause-form
+returns-clause-form g c =
+    each_two_value (joined_name (g.B.Book.kinds c.args.book.now) c.args.test) (env_of c.args.yes.now) (env_of c.args.no.now) c.args.bank.now c.loop-place.place
+    (env_of c.loop-place.names.items) c.loop-place.bank (all_named c.args.yes.now c.loop-place.place c.loop-place-test.false) c.loop-place.invariant.went
