@@ -1,10 +1,12 @@
 use Rattle.std.proofs.Common.{List, ap, sym, subst, ◌∙◌}
 use Rattle.std.specs.Option.{ForSome}
+use Rattle.ygg_syntax.specs.declared.tree.Stmt.{Stmt}
+use Rattle.ygg_sym_runs.specs.ygg_bank_proofs_Widths.{extends_both}
 use Rattle.ygg_sym_runs.specs.Wholes.{sym_returned}
 use Rattle.ygg_sym_runs.specs.Seen.{CanTerm, env_of}
 use Rattle.ygg_sym_runs.specs.declared.held.SymBinding.{SymBinding}
-use Rattle.ygg_sym_runs.specs.Ready.{known_with, terms_of}
-use Rattle.ygg_sym_runs.proofs.Ending.{first_names, whole_returns, whole_ends}
+use Rattle.ygg_sym_runs.specs.Ready.{CanRun, known_with, terms_of}
+use Rattle.ygg_sym_runs.proofs.Ending.{first_names, whole_runs, whole_returns, whole_ends}
 use Rattle.ygg_sym_runs.proofs.running.whole.Goals as goal
 
 pub returned-requires-clause-can : goal.returned-requires-clause-can
@@ -36,3 +38,20 @@ returns-clause-whole g c vars args joined count =
     (c.in_ok-answer.ensures.nodes ∙ ap (λ (bs : List SymBinding). (sym_returned kinds terms N b.answer (env_of bs) mid).nodes) c.as_slice-2.ensures.value)
     (c.in_ok-answer.ensures.form ∙ ap (λ (bs : List SymBinding). (sym_returned kinds terms N b.answer (env_of bs) mid).value) c.as_slice-2.ensures.value)
     (first_names f.names.items c.truncate.new.self.items c.args.count c.truncate.ensures.items) c.in_ok-answer.ensures.single
+
+pub returns-clause-grows : goal.returns-clause-grows
+returns-clause-grows g c = extends_both c.args.bank.now c.statements.new.bank c.returned.new.bank c.statements.ensures.grows c.returned.ensures.grows
+
+pub returns-in_err-answer-clause-grows : goal.returns-in_err-answer-clause-grows
+returns-in_err-answer-clause-grows g c =
+    extends_both c.args.bank.now c.statements.new.bank c.returned.new.bank c.statements.ensures.grows c.returned.ensures.grows
+
+pub returns-in_err-statements-clause-grows : goal.returns-in_err-statements-clause-grows
+returns-in_err-statements-clause-grows g c = c.statements.ensures.grows
+
+pub statements-requires-clause-can : goal.statements-requires-clause-can
+statements-requires-clause-can g c =
+    let r = c.args.runner.now in
+    let M = g.W.SymLower.means r.machine.now in
+    subst (λ (ss : List Stmt). CanRun M r.defs.now ss c.args.bank.now (env_of c.args.names.items) c.args.state) (sym c.as_slice.ensures)
+    (whole_runs M r.defs.now c.args.b.now c.args.bank.now (env_of c.args.names.items) c.args.state c.requires.can)

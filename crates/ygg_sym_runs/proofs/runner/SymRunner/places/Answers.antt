@@ -1,10 +1,10 @@
-use Rattle.std.proofs.Common.{◌+◌, List, sym, subst}
-use Rattle.ygg_sym_runs.specs.ygg_bank_proofs_Widths.{extends_both}
+use Rattle.std.proofs.Common.{◌+◌, List, refl, sym, subst}
+use Rattle.ygg_sym_runs.specs.ygg_bank_proofs_Widths.{extends_self, extends_both}
 use Rattle.ygg_sym_runs.specs.ygg_bank.declared.node.Id.{Id}
 use Rattle.ygg_sym_runs.specs.Seen.{env_of}
 use Rattle.ygg_sym_runs.specs.Ready.{known_with, terms_of}
 use Rattle.ygg_sym_runs.specs.Runs.{plain_scope}
-use Rattle.ygg_sym_runs.proofs.Several.{PlacesSoFar, can_index, places_go}
+use Rattle.ygg_sym_runs.proofs.Several.{PlacesSoFar, can_index, places_go, places_value, places_nodes}
 use Rattle.ygg_sym_runs.proofs.Zeros.{single_both}
 use Rattle.ygg_sym_runs.proofs.runner.SymRunner.places.Goals as goal
 
@@ -40,3 +40,31 @@ returns-in_err-value-clause-grows g c =
 pub returns-in_err-push-clause-grows : goal.returns-in_err-push-clause-grows
 returns-in_err-push-clause-grows g c =
     extends_both c.args.bank.now c.loop-index.bank c.value.new.bank c.loop-index.invariant.grows c.value.ensures.grows
+
+pub loop-index-init : goal.loop-index-init
+loop-index-init g c =
+    let r = c.args.self.now in
+    let kinds = g.B.Book.kinds r.book.now in
+    let scope = plain_scope (env_of c.args.names.now) in
+    let old = c.args.bank.now in
+    record {
+      went = subst (λ (z : List Id). PlacesSoFar kinds (terms_of kinds r.defs.now) scope c.args.indices.now old 0 z old) (sym c.new-places.ensures.items)
+          (record { value = refl; nodes = refl });
+      grows = extends_self old;
+      bank = c.requires.bank;
+      single = λ first single. single;
+    }
+
+pub returns-clause-nodes : goal.returns-clause-nodes
+returns-clause-nodes g c =
+    let r = c.args.self.now in
+    let kinds = g.B.Book.kinds r.book.now in
+    places_nodes kinds (terms_of kinds r.defs.now) (plain_scope (env_of c.args.names.now)) c.args.indices.now c.args.bank.now c.loop-index.index-index
+    c.loop-index.places.items c.loop-index.bank c.loop-index-test.false c.loop-index.invariant.went
+
+pub returns-clause-form : goal.returns-clause-form
+returns-clause-form g c =
+    let r = c.args.self.now in
+    let kinds = g.B.Book.kinds r.book.now in
+    places_value kinds (terms_of kinds r.defs.now) (plain_scope (env_of c.args.names.now)) c.args.indices.now c.args.bank.now c.loop-index.index-index
+    c.loop-index.places.items c.loop-index.bank c.loop-index-test.false c.loop-index.invariant.went
