@@ -29,6 +29,7 @@ use Rattle.ygg_base.specs.declared.failure.Refuse.TheVariants.{At, Memory}
 use Rattle.ygg_value.specs.declared.row.Value.{Value}
 use Rattle.ygg_syntax.specs.declared.tree.Declared.{Declared}
 use Rattle.ygg_syntax.specs.declared.tree.File.{File}
+use Rattle.ygg_sched.specs.declared.schedule.Schedule.{Schedule}
 use Rattle.ygg_sched.specs.Sites.{Site}
 use Rattle.ygg_sched.specs.Lines.{Left, Read, ◌>>=◌, Gives, fixed_at, obligation_at, variable_at}
 use Rattle.ygg_sched.specs.Reading.{variables_at, body_at, schedule_of}
@@ -90,3 +91,26 @@ pub begun : (f : File) (text : List ℕ) (first : Left) (x : (List ℕ × Site) 
     → schedule_of f text ≡ body_at x.0.0 x.0.1 x.1
 unfolding schedule_of
 begun f text first x head named = rw (head, named) refl
+
+-- where the first line is at fault, the text is
+pub fails_first : {X : Type 0} (f : File) (text : List ℕ) (view : X → Left) (result : Result Schedule Refuse) (refuse : Refuse) →
+    IsErrAnd result (λ r. r ≡ refuse) → Gives view (Err refuse) (fixed_at (codes "ygg-schedule 1") (record { line = 1; bytes = text })) →
+    Gives (λ (x : Schedule). x) result (schedule_of f text)
+unfolding schedule_of
+fails_first f text view (Ok x) refuse same read = absurd same
+fails_first f text view (Err r) refuse same read = rw same (by refuse read) where
+  by : (e : Refuse) → Gives view (Err e) (fixed_at (codes "ygg-schedule 1") (record { line = 1; bytes = text })) →
+      Gives (λ (x : Schedule). x) (Err e) (schedule_of f text)
+  by (At refusal) head = rw head refl
+  by Memory head = tt
+
+-- so it is where the second line is
+pub fails_second : {X : Type 0} (f : File) (text : List ℕ) (first : Left) (view : X → (List ℕ × Site) × Left) (result : Result Schedule Refuse)
+    (refuse : Refuse) → IsErrAnd result (λ r. r ≡ refuse) → fixed_at (codes "ygg-schedule 1") (record { line = 1; bytes = text }) ≡ Ok first →
+    Gives view (Err refuse) (obligation_at f first) → Gives (λ (x : Schedule). x) result (schedule_of f text)
+unfolding schedule_of
+fails_second f text first view (Ok x) refuse same head read = absurd same
+fails_second f text first view (Err r) refuse same head read = rw same (by refuse read) where
+  by : (e : Refuse) → Gives view (Err e) (obligation_at f first) → Gives (λ (x : Schedule). x) (Err e) (schedule_of f text)
+  by (At refusal) named = rw (head, named) refl
+  by Memory named = tt

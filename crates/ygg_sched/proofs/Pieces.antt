@@ -16,6 +16,15 @@ regroup : {A : Type 0} (front : List A) (x : A) (read : Option (List A)) →
 regroup front x None = refl
 regroup front x (Some xs) = ap (λ ys. Some ys) (sym (append_assoc front (x ∷ []) xs))
 
+with_none : {A : Type 0} (read : Option (List A)) → with_front [] read ≡ read
+with_none None = refl
+with_none (Some xs) = refl
+
+-- where all pieces are left
+pub none_read : {A : Type 0} (read : List ℕ → Option A) (count : ℕ) (pieces : List (List ℕ)) →
+    with_front [] (exactly read (count - 0) pieces) ≡ exactly read count pieces
+none_read read count pieces = let k : count - 0 ≡ count = omega arith in rw k (with_none (exactly read count pieces))
+
 module _ {A : Type 0} (read : List ℕ → Option A) (mark : ℕ) (front : List A) (count i : ℕ) where
   -- a piece that is read
   pub goes_on : (bytes : List ℕ) (x : A) → i < count → read (cut_at mark bytes).0 ≡ Some x →

@@ -1,12 +1,12 @@
 use Rattle.std.proofs.Common.{◌≡◌, ◌∙◌, ◌+◌, ◌-◌, ◌<◌, ◌≤◌, ◌++◌, ◌∷◌, [], length, take, sym, ap, arith, Bor, List, ℕ, Option, Some, None}
 use Rattle.std.specs.Option.{option_copied, option_map}
 use Rattle.std.specs.Prelude.{slice_set}
-use Rattle.std.proofs.lemmas.List.{take_more_set, take_all}
+use Rattle.std.proofs.lemmas.List.{length-replicate, take_more_set, take_all}
 use Rattle.ygg_value.specs.Number.{Digits, Grid}
 use Rattle.ygg_sched.specs.Words.{cut_at, parts}
 use Rattle.ygg_sched.specs.Values.{exactly, row_in, rows_in}
 use Rattle.ygg_sched.proofs.Cutting.{pieces_of}
-use Rattle.ygg_sched.proofs.Pieces.{with_front, goes_on, stops, too_many_left, ends_left}
+use Rattle.ygg_sched.proofs.Pieces.{with_front, none_read, goes_on, stops, too_few, too_many_left, ends_left}
 use Rattle.ygg_sched.proofs.value_reading.table_of.Goals as goal
 
 abbrev words_of : Option Digits → Option (List ℕ)
@@ -65,3 +65,38 @@ returns-clause-rows c =
     ∙ sym (ends_left (row_in c.args.width c.args.words) 59 (take c.loop-at.at c.loop-at.table.rows) c.args.rows c.loop-at.at c.loop-at.left
     (sym c.is_some.ensures ∙ c.if-is_some.false) c.loop-at-test.false)
     ∙ c.loop-at.invariant.0
+
+pub zero_table-requires : goal.zero_table-requires
+zero_table-requires c = c.requires
+
+pub row_of-requires : goal.row_of-requires
+row_of-requires c = (c.requires.1, c.requires.2)
+
+pub loop-at-init : goal.loop-at-init
+loop-at-init c =
+    let table = c.in_ok-table.ensures in (
+      none_read (row_in c.args.width c.args.words) c.args.rows (parts 59 c.args.bytes.now),
+      ap (λ (t : Grid). t.width) table,
+      ap (λ (t : Grid). t.words) table,
+      ap (λ (t : Grid). length t.rows) table ∙ length-replicate c.args.rows _,
+    )
+
+pub returns-in_default-clause-rows : goal.returns-in_default-clause-rows
+returns-in_default-clause-rows c =
+    let read : List ℕ → Option (List ℕ) = row_in c.args.width c.args.words in
+    let front : List (List ℕ) = take c.loop-at.at c.loop-at.table.rows in
+    sym (too_few read 59 front c.args.rows c.loop-at.at c.loop-at-test.true)
+    ∙ ap (λ (left : Option (Bor (List ℕ))). with_front front (exactly read (c.args.rows - c.loop-at.at) (pieces_of 59 (option_copied left)))) (sym c.in_default.is)
+    ∙ c.loop-at.invariant.0
+
+pub table_write-requires : goal.table_write-requires
+table_write-requires c = record {
+  width = rw c.in-Some-found.is at c.in_ok-found.ensures.width ∙ sym c.loop-at.invariant.1;
+  words = rw c.in-Some-found.is at c.in_ok-found.ensures.words ∙ sym c.loop-at.invariant.2;
+}
+
+pub returns-clause-width : goal.returns-clause-width
+returns-clause-width c = c.loop-at.invariant.1
+
+pub returns-clause-words : goal.returns-clause-words
+returns-clause-words c = c.loop-at.invariant.2
