@@ -1,4 +1,4 @@
-use Rattle.std.proofs.Common.{◌∷◌, ◌∙◌, map}
+use Rattle.std.proofs.Common.{◌∷◌, ◌∙◌, map, arith}
 use Rattle.ygg_base.specs.declared.token.Keyword.TheVariants as word
 use Rattle.ygg_syntax.specs.declared.grammar.BlockKind.TheVariants.{Impl}
 use Rattle.ygg_syntax.specs.Reading.{in_turn}
@@ -27,3 +27,14 @@ returns-clause-goes c =
     let gone = rw c.in-Ok-Some.field-0-is at c.in-Ok-Some.ensures.goes in
     let rest = rw c.in-Ok-Some-ticks_and_recover.field-0-is at c.in-Ok-Some-ticks_and_recover.ensures.goes in
     λ qs. gone (repeated pending.tick ∷ perhaps pending.recover_block ∷ qs) ∙ rest qs
+
+pub returns-in-Ok-None-clause-refused : goal.returns-in-Ok-None-clause-refused
+returns-in-Ok-None-clause-refused c =
+    let stopped = rw c.in-Ok-None.field-0-is at c.in-Ok-None.ensures.refused in
+    λ qs. stopped (repeated pending.tick ∷ perhaps pending.recover_block ∷ qs)
+
+pub returns-clause-shorter : goal.returns-clause-shorter
+returns-clause-shorter c =
+    let first = rw c.in-Ok-Some.field-0-is at c.in-Ok-Some.ensures.shorter in
+    let second = rw c.in-Ok-Some-ticks_and_recover.field-0-is at c.in-Ok-Some-ticks_and_recover.ensures.shorter in
+    omega (arith, first, second)

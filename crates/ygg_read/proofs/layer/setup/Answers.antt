@@ -1,4 +1,4 @@
-use Rattle.std.proofs.Common.{◌∷◌, ◌∙◌, map, refl}
+use Rattle.std.proofs.Common.{◌∷◌, ◌∙◌, map, refl, arith}
 use Rattle.ygg_base.specs.declared.token.Keyword.TheVariants as word
 use Rattle.ygg_syntax.specs.declared.grammar.BlockKind.TheVariants.{Impl}
 use Rattle.ygg_syntax.specs.Reading.{in_turn}
@@ -37,3 +37,9 @@ returns-clause-goes c =
     λ qs. gone pending.state_variable refl refl pending.start_block refl refl
     (repeated pending.memory_variable ∷ perhaps pending.format_block ∷ qs)
     ∙ rest pending.memory_variable refl refl pending.format_block refl refl qs
+
+pub returns-clause-shorter : goal.returns-clause-shorter
+returns-clause-shorter c =
+    let first = rw c.in-Ok-Some.field-0-is at c.in-Ok-Some.ensures.shorter in
+    let second = rw c.in-Ok-Some-variables_and_block.field-0-is at c.in-Ok-Some-variables_and_block.ensures.shorter in
+    omega (arith, first, second)

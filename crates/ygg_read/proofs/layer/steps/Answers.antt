@@ -1,4 +1,4 @@
-use Rattle.std.proofs.Common.{◌∷◌, ◌∙◌, map}
+use Rattle.std.proofs.Common.{◌∷◌, ◌∙◌, map, arith}
 use Rattle.ygg_base.specs.declared.token.Keyword.TheVariants as word
 use Rattle.ygg_syntax.specs.declared.grammar.BlockKind.TheVariants.{Impl}
 use Rattle.ygg_syntax.specs.Reading.{in_turn}
@@ -29,3 +29,14 @@ returns-clause-goes c =
     let rest = rw c.in-Ok-Some-after_operations.field-0-is at c.in-Ok-Some-after_operations.ensures.goes in
     λ qs. gone (perhaps pending.crash_block ∷ repeated pending.tick ∷ perhaps pending.recover_block ∷ qs)
     ∙ rest qs
+
+pub returns-in-Ok-None-clause-refused : goal.returns-in-Ok-None-clause-refused
+returns-in-Ok-None-clause-refused c =
+    let stopped = rw c.in-Ok-None.field-0-is at c.in-Ok-None.ensures.refused in
+    λ qs. stopped (perhaps pending.crash_block ∷ repeated pending.tick ∷ perhaps pending.recover_block ∷ qs)
+
+pub returns-clause-shorter : goal.returns-clause-shorter
+returns-clause-shorter c =
+    let first = rw c.in-Ok-Some.field-0-is at c.in-Ok-Some.ensures.shorter in
+    let second = rw c.in-Ok-Some-after_operations.field-0-is at c.in-Ok-Some-after_operations.ensures.shorter in
+    omega (arith, first, second)

@@ -1,4 +1,4 @@
-use Rattle.std.proofs.Common.{◌∷◌, ◌∙◌}
+use Rattle.std.proofs.Common.{◌∷◌, ◌∙◌, arith}
 use Rattle.ygg_syntax.specs.Blocks.{optional}
 use Rattle.ygg_syntax.specs.Pending.{perhaps}
 use Rattle.ygg_read.proofs.layer.variables_and_block.Goals as goal
@@ -25,3 +25,9 @@ returns-clause-goes c =
     let gone = rw c.in-Ok-Some.field-0-is at c.in-Ok-Some.ensures.goes in
     let rest = rw c.in-Ok-Some-optional.field-0-is at c.in-Ok-Some-optional.ensures.goes in
     λ p b o q begin is qs. gone p b o (perhaps q ∷ qs) ∙ rest q begin is qs
+
+pub returns-clause-shorter : goal.returns-clause-shorter
+returns-clause-shorter c =
+    let first = rw c.in-Ok-Some.field-0-is at c.in-Ok-Some.ensures.shorter in
+    let second = rw c.in-Ok-Some-optional.field-0-is at c.in-Ok-Some-optional.ensures.shorter in
+    omega (arith, first, second)

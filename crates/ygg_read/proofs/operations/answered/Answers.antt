@@ -1,4 +1,4 @@
-use Rattle.std.proofs.Common.{List, [], ◌∷◌, ◌++◌, ◌∙◌}
+use Rattle.std.proofs.Common.{List, [], ◌∷◌, ◌++◌, length, ap, ◌∙◌, arith}
 use Rattle.ygg_base.specs.declared.token.Keyword.TheVariants as word
 use Rattle.ygg_base.specs.declared.token.Symbol.TheVariants as sign
 use Rattle.ygg_base.specs.declared.token.Mark.TheVariants as mark
@@ -50,3 +50,20 @@ returns-clause-goes c =
     ∙ c.in-Some-keyword.ensures.goes (pending.answering Spec ∷ perhaps pending.on_crash ∷ word_of word.Impl ∷ pending.answering Impl ∷ qs)
     ∙ gone (perhaps pending.on_crash ∷ word_of word.Impl ∷ pending.answering Impl ∷ qs)
     ∙ rest qs
+
+pub returns-in_default-clause-refused : goal.returns-in_default-clause-refused
+returns-in_default-clause-refused c =
+    λ qs. c.in_default.ensures.refused (word_of word.Spec ∷ pending.answering Spec ∷ perhaps pending.on_crash ∷ word_of word.Impl ∷ pending.answering Impl ∷ qs)
+
+pub returns-in_default-keyword-clause-refused : goal.returns-in_default-keyword-clause-refused
+returns-in_default-keyword-clause-refused c =
+    λ qs. c.in-Some.ensures.goes (word_of word.Spec ∷ pending.answering Spec ∷ perhaps pending.on_crash ∷ word_of word.Impl ∷ pending.answering Impl ∷ qs)
+    ∙ c.in_default-keyword.ensures.refused (pending.answering Spec ∷ perhaps pending.on_crash ∷ word_of word.Impl ∷ pending.answering Impl ∷ qs)
+
+pub returns-clause-shorter : goal.returns-clause-shorter
+returns-clause-shorter c =
+    let first = c.in-Some.ensures.shorter in
+    let second = ap length c.in-Some-keyword.ensures.taken in
+    let third = rw c.in-Ok-Some.field-0-is at c.in-Ok-Some.ensures.shorter in
+    let fourth = rw c.in-Ok-Some-answering_code.field-0-is at c.in-Ok-Some-answering_code.ensures.shorter in
+    omega (arith, first, second, third, fourth)

@@ -1,4 +1,4 @@
-use Rattle.std.proofs.Common.{◌∷◌, ◌∙◌}
+use Rattle.std.proofs.Common.{◌∷◌, ◌∙◌, arith}
 use Rattle.ygg_syntax.specs.declared.grammar.BlockKind.TheVariants.{Impl}
 use Rattle.ygg_syntax.specs.Blocks.{answering}
 use Rattle.ygg_syntax.specs.Pending as pending
@@ -21,3 +21,14 @@ returns-clause-goes c =
     let gone = rw c.in-Ok-Some.field-0-is at c.in-Ok-Some.ensures.goes in
     let rest = rw c.in-Ok-Some-answering.field-0-is at c.in-Ok-Some-answering.ensures.goes in
     λ qs. gone (pending.answering Impl ∷ qs) ∙ rest qs
+
+pub returns-in-Ok-None-clause-refused : goal.returns-in-Ok-None-clause-refused
+returns-in-Ok-None-clause-refused c =
+    let stopped = rw c.in-Ok-None.field-0-is at c.in-Ok-None.ensures.refused in
+    λ qs. stopped (pending.answering Impl ∷ qs)
+
+pub returns-clause-shorter : goal.returns-clause-shorter
+returns-clause-shorter c =
+    let first = rw c.in-Ok-Some.field-0-is at c.in-Ok-Some.ensures.shorter in
+    let second = rw c.in-Ok-Some-answering.field-0-is at c.in-Ok-Some-answering.ensures.shorter in
+    omega (arith, first, second)

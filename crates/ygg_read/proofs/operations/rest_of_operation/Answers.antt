@@ -1,4 +1,4 @@
-use Rattle.std.proofs.Common.{[], ◌∷◌, ◌∙◌}
+use Rattle.std.proofs.Common.{[], ◌∷◌, ◌∙◌, arith}
 use Rattle.ygg_base.specs.declared.token.Keyword.TheVariants as word
 use Rattle.ygg_base.specs.declared.token.Symbol.TheVariants as sign
 use Rattle.ygg_base.specs.declared.token.Mark.TheVariants as mark
@@ -32,3 +32,14 @@ returns-clause-goes c =
     let gone = rw c.in-Ok-Some.field-0-is at c.in-Ok-Some.ensures.goes in
     let rest = rw c.in-Ok-Some-blocks.field-0-is at c.in-Ok-Some-blocks.ensures.goes in
     λ qs. gone (rest_of_operation ∷ qs) ∙ rest qs
+
+pub returns-in-Ok-None-clause-refused : goal.returns-in-Ok-None-clause-refused
+returns-in-Ok-None-clause-refused c =
+    let stopped = rw c.in-Ok-None.field-0-is at c.in-Ok-None.ensures.refused in
+    λ qs. stopped (rest_of_operation ∷ qs)
+
+pub returns-clause-shorter : goal.returns-clause-shorter
+returns-clause-shorter c =
+    let first = rw c.in-Ok-Some.field-0-is at c.in-Ok-Some.ensures.shorter in
+    let second = rw c.in-Ok-Some-blocks.field-0-is at c.in-Ok-Some-blocks.ensures.shorter in
+    omega (arith, first, second)

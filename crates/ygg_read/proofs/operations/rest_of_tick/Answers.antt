@@ -1,4 +1,4 @@
-use Rattle.std.proofs.Common.{[], ◌∷◌, ◌∙◌}
+use Rattle.std.proofs.Common.{[], ◌∷◌, length, ap, ◌∙◌, arith}
 use Rattle.ygg_base.specs.declared.token.Keyword.TheVariants as word
 use Rattle.ygg_base.specs.declared.token.Mark.TheVariants as mark
 use Rattle.ygg_syntax.specs.declared.grammar.BlockKind.TheVariants.{Impl}
@@ -28,3 +28,14 @@ returns-clause-goes c =
     let gone = rw c.in-Ok-Some.field-0-is at c.in-Ok-Some.ensures.goes in
     let rest = rw c.in-Ok-Some-block.field-0-is at c.in-Ok-Some-block.ensures.goes in
     λ qs. gone (pending.block Impl ∷ qs) ∙ rest qs
+
+pub returns-in-Ok-None-clause-refused : goal.returns-in-Ok-None-clause-refused
+returns-in-Ok-None-clause-refused c =
+    let stopped = rw c.in-Ok-None.field-0-is at c.in-Ok-None.ensures.refused in
+    λ qs. stopped (pending.block Impl ∷ qs)
+
+pub returns-clause-shorter : goal.returns-clause-shorter
+returns-clause-shorter c =
+    let first = ap length (rw c.in-Ok-Some.field-0-is at c.in-Ok-Some.ensures.taken) in
+    let second = rw c.in-Ok-Some-block.field-0-is at c.in-Ok-Some-block.ensures.shorter in
+    omega (arith, first, second)

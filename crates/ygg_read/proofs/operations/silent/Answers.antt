@@ -1,4 +1,4 @@
-use Rattle.std.proofs.Common.{[], ◌∷◌, ◌∙◌}
+use Rattle.std.proofs.Common.{[], ◌∷◌, ◌∙◌, arith}
 use Rattle.ygg_base.specs.declared.token.Keyword.TheVariants as word
 use Rattle.ygg_base.specs.declared.token.Mark.TheVariants as mark
 use Rattle.ygg_syntax.specs.declared.grammar.BlockKind.TheVariants.{Spec, Impl}
@@ -33,3 +33,14 @@ returns-clause-goes c =
     let rest = rw c.in-Ok-Some-silent_code.field-0-is at c.in-Ok-Some-silent_code.ensures.goes in
     λ qs. gone (perhaps pending.on_crash ∷ word_of word.Impl ∷ pending.block Impl ∷ qs)
     ∙ rest qs
+
+pub returns-in-Ok-None-clause-refused : goal.returns-in-Ok-None-clause-refused
+returns-in-Ok-None-clause-refused c =
+    let stopped = rw c.in-Ok-None.field-0-is at c.in-Ok-None.ensures.refused in
+    λ qs. stopped (perhaps pending.on_crash ∷ word_of word.Impl ∷ pending.block Impl ∷ qs)
+
+pub returns-clause-shorter : goal.returns-clause-shorter
+returns-clause-shorter c =
+    let first = rw c.in-Ok-Some.field-0-is at c.in-Ok-Some.ensures.shorter in
+    let second = rw c.in-Ok-Some-silent_code.field-0-is at c.in-Ok-Some-silent_code.ensures.shorter in
+    omega (arith, first, second)
