@@ -1,7 +1,7 @@
 use Rattle.ygg_sym_runs.specs.ygg_bank_proofs_Widths.{extends_both, wider}
 use Rattle.ygg_sym_runs.specs.Lower.{question_of}
 use Rattle.ygg_sym_machine.specs.Halting.{halted_of, halting_meaning, no_functions}
-use Rattle.ygg_sym_machine.proofs.Standing.{ask_inner, ask_later, single_both, stopped_wide}
+use Rattle.ygg_sym_machine.proofs.Standing.{ask_inner, ask_later, can_lose, single_both, stopped_wide}
 use Rattle.std.proofs.Common.{ap, ◌∙◌}
 use Rattle.ygg_sym_runs.specs.ygg_bank.Makes.{Out}
 use Rattle.ygg_sym_runs.specs.Runs.{SymHandled}
@@ -163,3 +163,25 @@ returns-clause-state g c =
     (c.in_ok-inner.ensures.nodes ∙ ap (λ n. (K2.bit n c.bit.new.bank).nodes) c.in_ok-within.ensures)
     c.in_ok-fallen.ensures.form c.in_ok-fallen.ensures.nodes c.in_ok-some.ensures.form c.in_ok-some.ensures.nodes c.in_ok-stopped.ensures.form
     c.in_ok-stopped.ensures.nodes c.in_ok-answer.ensures.answer c.in_ok-answer.ensures.state c.in_ok-answer.ensures.nodes)
+
+pub bit-requires : goal.bit-requires
+bit-requires g c =
+    let z = halted_of c.args.to.now c.args.fallen.now c.args.stopped in
+    let lose = can_lose (g.W.SymLower.means c.args.stops.now) (g.W.SymStops.power c.args.stops.now) c.args.bank.now (question_of c.args.question) z c.requires.asks in
+    lose.single
+
+pub bit-requires-2 : goal.bit-requires-2
+bit-requires-2 g c =
+    let K = g.W.SymStops.power c.args.stops.now in
+    let z = halted_of c.args.to.now c.args.fallen.now c.args.stopped in
+    let lose = can_lose (g.W.SymLower.means c.args.stops.now) K c.args.bank.now (question_of c.args.question) z c.requires.asks in
+    c.in_ok-here.ensures.single K.first lose.single
+
+pub left-requires-clause-within : goal.left-requires-clause-within
+left-requires-clause-within g c = c.in_ok-inner.ensures.width
+
+pub either-requires-2-clause-one : goal.either-requires-2-clause-one
+either-requires-2-clause-one g c = c.in_ok-some.ensures.width
+
+pub returns-in_err-here-clause-grows : goal.returns-in_err-here-clause-grows
+returns-in_err-here-clause-grows g c = c.bit.ensures.grows
