@@ -40,6 +40,7 @@ use Rattle.std.proofs.Common.{
 use Rattle.std.proofs.lemmas.List.Elements.{Contains-get_or, All-contains, All-get_or}
 use Rattle.std.proofs.lemmas.Option.{same_Some, slice_get-get_or, slice_get_within, get_or_from_slice_get}
 use Rattle.ygg_cnf_set.proofs.ListLemmas.{contains_more, contains_all}
+use Rattle.ygg_cnf.proofs.Lits.{lit_cases}
 use Rattle.ygg_cnf.specs.Derivations.{HasClause}
 use Rattle.ygg_cnf.specs.Literals.{complement}
 use Rattle.ygg_cnf.specs.Logs.{IsOpen}
@@ -246,3 +247,8 @@ has_value trail var e v (q, h) = (
     ),
   ),
 )
+
+-- a clause is false where one literal is, and each other one of the clause
+pub all_but_one : (clause : List Lit) (trail : List Entry) (x : Lit) → IsFalse trail x → ((y : Lit) → Contains clause y → y ≢ x → IsFalse trail y)
+    → (y : Lit) → Contains clause y → IsFalse trail y
+all_but_one clause trail x f others y c = ⊎_elim (λ e. subst (IsFalse trail) (sym e) f) (λ d. others y c d) (lit_cases y x)

@@ -49,7 +49,7 @@ use Rattle.ygg_cnf_set.specs.LiteralSet.{code_of}
 use Rattle.ygg_cnf.specs.Literals.{complement}
 use Rattle.ygg_cnf.specs.declared.lit.Lit.{Lit}
 use Rattle.ygg_watch.specs.Propagation.{Propagation, Spreads, Implies}
-use Rattle.ygg_watch.proofs.AssignmentLemmas.{not_both_on, at_take, take_at, at_start, keep_all}
+use Rattle.ygg_watch.proofs.AssignmentLemmas.{fits_below, not_both_on, at_take, take_at, at_start, keep_all}
 use Rattle.ygg_watch.proofs.TrailLemmas.{entry_within, at_front, at_in}
 use Rattle.ygg_watch.specs.Assignments.{IsTrail, IsLevelled}
 use Rattle.ygg_watch.specs.Trail.{IsAt, keep_level, IsOnTrail}
@@ -147,6 +147,25 @@ watching_attached clauses watched trail frames head k x y h i clause l is =
     ))
     (λ s. inr s)
     (h i clause l is)
+
+-- a held clause has two watches, and its literals have lists
+module _ {clauses : List (List Lit)} {watched : List Lit} {next firsts pending : List ℕ} {trail : List Entry} {variable_count : ℕ} {frames : List Checkpoint}
+    {head seen : ℕ} (k : ℕ) (clause : List Lit) (live : IsLive clauses watched next firsts pending trail variable_count frames head seen)
+    (is : slice_get clauses k ≡ Some clause) where
+  pub is_held : k < length clauses
+  is_held = slice_get_within clauses k clause is
+
+  pub has_watches : 2 * k + 1 < length watched
+  has_watches = let l = is_held in let size = live.watched_size in omega (arith, l, size)
+
+  pub has_nodes : 2 * k + 1 < length next
+  has_nodes = let l = is_held in let size = live.next_size in omega (arith, l, size)
+
+  pub has_variable : (x : Lit) → Contains clause x → x.var < variable_count
+  has_variable x = lit_within clauses variable_count k clause x live.variables is
+
+  pub has_list : (x : Lit) → Contains clause x → code_of x < length firsts
+  has_list x c = fits_below x variable_count (length firsts) (has_variable x c) live.firsts_size
 
 pub live_attached : (clauses : List (List Lit)) (watched : List Lit) (next firsts : List ℕ) (trail : List Entry) (variable_count : ℕ) (frames : List Checkpoint)
     (head k : ℕ) (x y : Lit) (clause : List Lit)
