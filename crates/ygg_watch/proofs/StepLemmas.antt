@@ -54,6 +54,7 @@ use Rattle.ygg_watch.proofs.TrailLemmas.{entry_within, at_front, at_in}
 use Rattle.ygg_watch.specs.Assignments.{IsTrail, IsLevelled}
 use Rattle.ygg_watch.specs.Trail.{IsAt, keep_level, IsOnTrail}
 use Rattle.ygg_watch.specs.declared.entry.Entry.{Entry}
+use Rattle.ygg_watch.specs.declared.examine.Examined.TheVariants.{Fine, False, Stuck}
 use Rattle.ygg_watch.proofs.ListLemmas.{sibling_first, sibling_second, sibling_twice, sibling_within, lists_linked, lists_attached}
 use Rattle.ygg_watch.specs.Lists.{sibling, no_lit, lit_of, IsLinked, IsOwn, Among, IsLists, IsMember, IsPath, IsList}
 use Rattle.ygg_watch.specs.State.{IsLive, IsState}
@@ -531,3 +532,10 @@ pub live_as : (c1 c2 : List (List Lit)) (watched : List Lit) (next firsts : List
     → IsLive c1 watched next firsts [] trail variable_count r1 head seen → c2 ≡ c1 → r2 ≡ r1 →
     IsLive c2 watched next firsts [] trail variable_count r2 head seen
 live_as c1 c2 watched next firsts trail variable_count r1 r2 head seen v e1 e2 = rw (e1, e2) v
+
+-- what a look at a clause ends with is one thing
+pub fine_or_false : Fine ≡ False → ⊥
+fine_or_false e = cc
+
+pub fine_or_stuck : Fine ≡ Stuck → ⊥
+fine_or_stuck e = cc
