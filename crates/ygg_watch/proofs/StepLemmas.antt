@@ -17,6 +17,7 @@ use Rattle.std.proofs.Common.{
   length,
   take,
   get_or,
+  replicate,
   set,
   ◌⊎◌,
   inl,
@@ -42,7 +43,7 @@ use Rattle.std.proofs.Common.{
 }
 use Rattle.std.proofs.Math.Seq.{get_or-append_seam}
 use Rattle.std.proofs.lemmas.Bool.{cases_eq, cases_lt}
-use Rattle.std.proofs.lemmas.List.{get_or-take, get_or_append_left}
+use Rattle.std.proofs.lemmas.List.{get_or-take, get_or_append_left, length-replicate, get_or-replicate}
 use Rattle.std.proofs.lemmas.List.Elements.{All-push}
 use Rattle.std.proofs.lemmas.Option.{same_Some, slice_get-get_or, slice_get_within}
 use Rattle.ygg_cnf_set.specs.LiteralSet.{code_of}
@@ -446,6 +447,33 @@ path_more next more at (x ∷ xs) w (e, p) = (
   subst (λ n. IsPath (next ++ more) n xs) (sym (get_or_append_left next more 0 x (w x (inl refl))))
       (path_more next more (get_or next x 0) xs (λ n a. w n (inr a)) p),
 )
+
+-- nothing is watched at first
+pub live_none : (variable_count : ℕ) → IsLive [] [] [] (replicate (2 * variable_count) 0) [] [] variable_count [] 0 0
+live_none variable_count = record {
+  variables = λ k d l. absurd (omega (arith, l));
+  watched_size = refl;
+  next_size = refl;
+  firsts_size = length-replicate (2 * variable_count) 0;
+  lists = λ c l. let inside : c < 2 * variable_count = let size = length-replicate {A = ℕ} (2 * variable_count) 0 in omega (arith, l, size) in record {
+    nodes = [];
+    path = get_or-replicate (2 * variable_count) c 0 0 inside;
+    once = tt;
+    own = λ n a. absurd a;
+    apart = λ n a. absurd a;
+    whole = λ n own out. let l = own.0 in absurd (omega (arith, l));
+  };
+  member = λ n clause l. absurd (omega (arith, l));
+  framed = record {
+    head_within = omega arith;
+    heads = λ j l. absurd (omega (arith, l));
+    seens = λ j l. absurd (omega (arith, l));
+    heads_rise = λ i j w l. absurd (omega (arith, l));
+    seens_rise = λ i j w l. absurd (omega (arith, l));
+    low = λ j q e l. absurd (omega (arith, l));
+  };
+  watching = λ k clause l. absurd (omega (arith, l));
+}
 
 pub live_added : (clauses : List (List Lit)) (watched : List Lit) (next firsts : List ℕ) (trail : List Entry) (variable_count : ℕ) (frames : List Checkpoint)
     (head seen : ℕ) (clause : List Lit)
