@@ -92,19 +92,25 @@ returns-clause-watched c = c.link-2.ensures.watched ∙ (c.link.ensures.watched 
     ∙ ap (λ (w : List Lit). set w (2 * c.args.seen + 1) c.args.other) c.set_watch.ensures.watched))
 
 pub overflow_mul-seen : goal.overflow_mul-seen
-overflow_mul-seen c = let few = c.well_formed.0.1 in let l = is_held c.args.seen c.requires.pair.0 c.requires.live c.requires.pair.1.0 in omega (arith, few, l)
+overflow_mul-seen c =
+    let few = c.well_formed.0.1 in let l = is_held c.args.seen c.requires.pair.0 c.requires.live c.requires.pair.1.0 in omega (arith, few, l)
 
 pub overflow_mul-seen-2 : goal.overflow_mul-seen-2
-overflow_mul-seen-2 c = let few = c.well_formed.0.1 in let l = is_held c.args.seen c.requires.pair.0 c.requires.live c.requires.pair.1.0 in omega (arith, few, l)
+overflow_mul-seen-2 c =
+    let few = c.well_formed.0.1 in let l = is_held c.args.seen c.requires.pair.0 c.requires.live c.requires.pair.1.0 in omega (arith, few, l)
 
 pub overflow_add-seen : goal.overflow_add-seen
-overflow_add-seen c = let few = c.well_formed.0.1 in let l = is_held c.args.seen c.requires.pair.0 c.requires.live c.requires.pair.1.0 in omega (arith, few, l)
+overflow_add-seen c =
+    let few = c.well_formed.0.1 in let l = is_held c.args.seen c.requires.pair.0 c.requires.live c.requires.pair.1.0 in omega (arith, few, l)
 
 pub overflow_mul-seen-3 : goal.overflow_mul-seen-3
-overflow_mul-seen-3 c = let few = c.well_formed.0.1 in let l = is_held c.args.seen c.requires.pair.0 c.requires.live c.requires.pair.1.0 in omega (arith, few, l)
+overflow_mul-seen-3 c =
+    let few = c.well_formed.0.1 in let l = is_held c.args.seen c.requires.pair.0 c.requires.live c.requires.pair.1.0 in omega (arith, few, l)
 
 pub overflow_mul-seen-4 : goal.overflow_mul-seen-4
-overflow_mul-seen-4 c = let few = c.well_formed.0.1 in let l = is_held c.args.seen c.requires.pair.0 c.requires.live c.requires.pair.1.0 in omega (arith, few, l)
+overflow_mul-seen-4 c =
+    let few = c.well_formed.0.1 in let l = is_held c.args.seen c.requires.pair.0 c.requires.live c.requires.pair.1.0 in omega (arith, few, l)
 
 pub overflow_add-seen-2 : goal.overflow_add-seen-2
-overflow_add-seen-2 c = let few = c.well_formed.0.1 in let l = is_held c.args.seen c.requires.pair.0 c.requires.live c.requires.pair.1.0 in omega (arith, few, l)
+overflow_add-seen-2 c =
+    let few = c.well_formed.0.1 in let l = is_held c.args.seen c.requires.pair.0 c.requires.live c.requires.pair.1.0 in omega (arith, few, l)
