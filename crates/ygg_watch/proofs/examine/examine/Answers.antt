@@ -164,3 +164,39 @@ returns-in-Unit-clause-conflict c e = absurd (fine_or_false e)
 
 pub returns-else-not-is_unwatched-clause-live : goal.returns-else-not-is_unwatched-clause-live
 returns-else-not-is_unwatched-clause-live c = c.attach.ensures.live
+
+pub stands-requires-clause-at : goal.stands-requires-clause-at
+stands-requires-clause-at c = c.requires.at
+
+pub lits_of-requires : goal.lits_of-requires
+lits_of-requires c = c.requires.at
+
+pub returns-then-stands-clause-starts : goal.returns-then-stands-clause-starts
+returns-then-stands-clause-starts c = refl
+
+pub returns-then-stands-clause-variable_count : goal.returns-then-stands-clause-variable_count
+returns-then-stands-clause-variable_count c = refl
+
+pub returns-then-not-is_unwatched-clause-starts : goal.returns-then-not-is_unwatched-clause-starts
+returns-then-not-is_unwatched-clause-starts c = refl
+
+pub returns-in-False-clause-starts : goal.returns-in-False-clause-starts
+returns-in-False-clause-starts c = refl
+
+pub returns-in-False-clause-variable_count : goal.returns-in-False-clause-variable_count
+returns-in-False-clause-variable_count c = refl
+
+pub returns-in-True-clause-starts : goal.returns-in-True-clause-starts
+returns-in-True-clause-starts c = refl
+
+pub returns-in-True-clause-variable_count : goal.returns-in-True-clause-variable_count
+returns-in-True-clause-variable_count c = refl
+
+pub returns-in-Unit-clause-starts : goal.returns-in-Unit-clause-starts
+returns-in-Unit-clause-starts c = c.push.ensures.starts
+
+pub returns-in-Unit-clause-variable_count : goal.returns-in-Unit-clause-variable_count
+returns-in-Unit-clause-variable_count c = c.push.ensures.variable_count
+
+pub returns-else-not-is_unwatched-clause-starts : goal.returns-else-not-is_unwatched-clause-starts
+returns-else-not-is_unwatched-clause-starts c = refl

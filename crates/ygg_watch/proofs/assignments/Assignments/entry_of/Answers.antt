@@ -1,4 +1,4 @@
-use Rattle.std.proofs.Common.{false, true, sym, ap, ◌∙◌, arith}
+use Rattle.std.proofs.Common.{false, sym, ap, ◌∙◌, arith}
 use Rattle.std.proofs.lemmas.Bool.{false≢true}
 use Rattle.ygg_cnf.specs.declared.lit.Lit.{Lit}
 use Rattle.ygg_watch.proofs.AssignmentLemmas.{none_from, entry_at}

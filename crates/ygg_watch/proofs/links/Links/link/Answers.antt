@@ -1,4 +1,4 @@
-use Rattle.std.proofs.Common.{◌<◌, ◌≤◌, length, length-set, map, set, get_or, ap, ◌∙◌, ◌+◌, refl, arith}
+use Rattle.std.proofs.Common.{◌<◌, length, length-set, map, set, get_or, ap, ◌∙◌, ◌+◌, refl, arith}
 use Rattle.std.proofs.lemmas.List.{length-map, map-set, get_or_read}
 use Rattle.ygg_watch.proofs.LinkLemmas.{kept_at}
 use Rattle.ygg_cnf_set.specs.Codes.{lit_at}

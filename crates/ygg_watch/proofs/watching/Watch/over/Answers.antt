@@ -1,4 +1,4 @@
-use Rattle.std.proofs.Common.{refl, arith, sym, ◌∙◌}
+use Rattle.std.proofs.Common.{refl, arith}
 use Rattle.ygg_watch.proofs.watching.Watch.over.Goals as goal
 
 pub links_for-requires-clause-small : goal.links_for-requires-clause-small
