@@ -5,6 +5,7 @@ use Rattle.std.proofs.Common.{
   ◌<◌,
   ◌≤◌,
   ◌-◌,
+  ◌+◌,
   Bool,
   true,
   false,
@@ -30,8 +31,9 @@ use Rattle.std.proofs.Common.{
   ◌∙◌,
   arith,
   length-append,
+  append_assoc,
 }
-use Rattle.std.proofs.lemmas.List.{drop-append-le, take-append-le, length-drop, length-take-le, map-append, get_or_append_left, get_or-map, length-map}
+use Rattle.std.proofs.lemmas.List.{drop-append-le, take-append-le, length-drop, length-take-le, map-append, take_more, get_or_append_left, get_or-map, length-map}
 use Rattle.std.proofs.lemmas.List.Elements.{All-weaker, All-contains, All-cons, All-nil, All-head, All-tail, All-append, All-take}
 use Rattle.std.proofs.Math.Seq.{drop-append_seam, take-length}
 use Rattle.ygg_cnf.specs.declared.lit.Lit.{Lit}
@@ -247,3 +249,10 @@ pub patterns_fit : (variables : List ℕ) (given entered block : List Lit) (ps :
     → All (IsPattern (length block)) ps → All (IsPattern (length given)) ps
 patterns_fit variables given entered block ps same at are =
     subst (λ n. All (IsPattern n) ps) (sym (ap length at) ∙ length-map entered (literal_at variables) ∙ ap length (sym same)) are
+
+-- one more item of a list comes, each as what it stands for
+pub more_mapped : {A B : Type 0} (f : A → B) (xs : List A) (i : ℕ) (d : A) (old now next : List B) → i < length xs → now ≡ old ++ map f (take i xs)
+    → next ≡ now ++ f (get_or xs i d) ∷ [] → next ≡ old ++ map f (take (i + 1) xs)
+more_mapped f xs i d old now next l was is =
+    let items : map f (take (i + 1) xs) ≡ map f (take i xs) ++ f (get_or xs i d) ∷ [] = ap (map f) (take_more xs i d l) ∙ map-append f (take i xs) _ in
+    is ∙ (ap (λ z. z ++ f (get_or xs i d) ∷ []) was ∙ (append_assoc old (map f (take i xs)) _ ∙ ap (λ z. old ++ z) (sym items)))

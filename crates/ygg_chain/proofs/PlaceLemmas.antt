@@ -1,12 +1,13 @@
 -- Places of variables, and what stands for a literal.
 use Rattle.std.proofs.Common.{◌≡◌, ℕ, ◌<◌, ◌+◌, List, [], ◌∷◌, ◌++◌, length, map, get_or, take, ◌↔◌, Contains}
-use Rattle.std.proofs.Common.{All, Some, ⊎_elim, refl, sym, ap, subst, ◌∙◌, arith, length-append, Result, Ok, Err, OnOk, OnErr}
+use Rattle.std.proofs.Common.{All, Some, ⊎_elim, refl, sym, ap, subst, ◌∙◌, arith, append_assoc, Bool, length-append, Result, Ok, Err, OnOk, OnErr}
 use Rattle.std.proofs.lemmas.Bool.{cases_lt}
 use Rattle.std.proofs.lemmas.List.{get_or-map, take_more, length-map, get_or_append_left, map-append}
 use Rattle.std.proofs.lemmas.List.Elements.{Contains-get_or, All-head, All-tail, All-weaker, All-push}
 use Rattle.std.proofs.lemmas.Option.{same_Some}
 use Rattle.ygg_cnf.specs.declared.lit.Lit.{Lit}
 use Rattle.ygg_cnf.proofs.Lits.{same_lit}
+use Rattle.ygg_cnf_set.specs.LiteralSet.{InSet, IsSetOf}
 use Rattle.ygg_chain.specs.Places.{IsDistinct, IsPlaced, literal_at, StandsFor, clause_at, clauses_at}
 
 pub contains_map : {X Y : Type 0} (f : X → Y) (xs : List X) (x : X) → Contains xs x → Contains (map f xs) (f x)
@@ -103,3 +104,15 @@ pushed_placed (Err e) variables clauses pushed kept ok err all one =
 pub on_err_always : {T E P : Type 0} (answer : Result T E) → P → OnErr answer P
 on_err_always (Ok x) p = tt
 on_err_always (Err e) p = p
+
+-- what grew twice has grown
+pub grown : (old mid now : List ℕ) → (more : List ℕ) × (mid ≡ old ++ more) → (more : List ℕ) × (now ≡ mid ++ more) → (more : List ℕ) × (now ≡ old ++ more)
+grown old mid now (before, was) (more, grew) = (before ++ more, grew ∙ (ap (λ l. l ++ more) was ∙ append_assoc old before more))
+
+-- a set that is the same as one that is the same as the first
+pub same_set : (old mid now : List Bool) → IsSetOf mid (InSet old) → IsSetOf now (InSet mid) → IsSetOf now (InSet old)
+same_set old mid now was is y = ((λ m. (was y).0 ((is y).0 m)), (λ m. (is y).1 ((was y).1 m)))
+
+-- no place is kept yet
+pub none_placed : (variables : List ℕ) → All (IsPlaced variables) []
+none_placed variables k d l = absurd (omega (arith, l))

@@ -382,6 +382,25 @@ read_is [] i n l e = absurd (omega arith)
 read_is (x ∷ xs) zero n l e = e
 read_is (x ∷ xs) (suc i) n l e = read_is xs i n (omega arith) e
 
+-- a variable from the count on is not assigned
+pub none_from : (trail : List Entry) (variable_count v : ℕ) → IsTrail trail variable_count → variable_count ≤ v → IsAssigned trail v → ⊥
+none_from trail variable_count v t le (k, e, l, at, is) =
+    let w = t.within k (get_or trail k e) (slice_get-get_or trail k e l) in
+    let same : (get_or trail k e).lit.var ≡ v = ap (λ (z : Entry). z.lit.var) at ∙ is in
+    omega (arith, w, same, le)
+
+-- a variable one of whose two literals is true has its entry at its place
+pub entry_at : (trail : List Entry) (truth : List Bool) (places : List ℕ) (variable_count var place : ℕ) (p n : Bool) → IsKept trail truth places variable_count
+    → (p ≡ true → IsOnTrail trail (record { var = var; negated = false })) → (n ≡ true → IsOnTrail trail (record { var = var; negated = true }))
+    → ((p ≡ false) × (n ≡ true)) ⊎ (p ≡ true) → var < length places → place ≡ get_or places var place
+    → (e : Entry) × (IsAt trail place e × (e.lit.var ≡ var))
+entry_at trail truth places variable_count var place p n k positive negative either l is =
+    let by : (b : Bool) → IsOnTrail trail (record { var = var; negated = b }) → (e : Entry) × (IsAt trail place e × (e.lit.var ≡ var))
+    = λ b (q, (e, (h, s))). let v : e.lit.var ≡ var = ap (λ (z : Lit). z.var) s in
+    let same : place ≡ q = read_is places var place l is ∙ (ap (λ w. get_or places w 0) (sym v) ∙ k.placed q e h) in
+    (e, (subst (λ i. IsAt trail i e) (sym same) h, v)) in
+    ⊎_elim (λ m. by true (negative m.1)) (λ m. by false (positive m)) either
+
 -- no literal is assigned together with its complement
 not_own : (b : Bool) → not b ≡ b → ⊥
 not_own true e = false≢true e

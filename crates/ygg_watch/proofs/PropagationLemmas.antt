@@ -1,5 +1,5 @@
 -- The number of unassigned variables falls as literals are assigned.
-use Rattle.std.proofs.Common.{◌≡◌, List, [], ◌∷◌, ◌++◌, sym, ap, refl}
+use Rattle.std.proofs.Common.{◌≡◌, List, [], ◌∷◌, ◌++◌, sym, ap, refl, Result, Ok, Err, OnErr}
 use Rattle.ygg_watch.specs.Propagation.{Propagation, Spreads}
 use Rattle.ygg_watch.specs.declared.entry.Entry.{Entry}
 
@@ -12,3 +12,8 @@ variable_count_spreads old new (added, (i, e)) = ap (λ (p : Propagation). p.var
 
 pub clauses_spreads : (old new : Propagation) → Spreads old new → old.clauses ≡ new.clauses
 clauses_spreads old new (added, (i, e)) = ap (λ (p : Propagation). p.clauses) (sym e)
+
+-- what holds in any case holds where an error comes
+pub on_err : {X E P : Type 0} (r : Result X E) → P → OnErr r P
+on_err (Ok x) p = tt
+on_err (Err e) p = p

@@ -40,6 +40,7 @@ use Rattle.std.proofs.Common.{
 use Rattle.std.proofs.lemmas.List.Elements.{Contains-get_or, All-contains, All-get_or}
 use Rattle.std.proofs.lemmas.Option.{same_Some, slice_get-get_or, slice_get_within, get_or_from_slice_get}
 use Rattle.ygg_cnf_set.proofs.ListLemmas.{contains_more, contains_all}
+use Rattle.ygg_cnf.proofs.Lits.{lit_cases}
 use Rattle.ygg_cnf.specs.Derivations.{HasClause}
 use Rattle.ygg_cnf.specs.Literals.{complement}
 use Rattle.ygg_cnf.specs.Logs.{IsOpen}
@@ -166,6 +167,11 @@ is_unit clause trail i free x l was is =
     let f = was.found x is in
     (f.0, (f.1, λ y c d. ⊎_elim (λ n. n) (λ e. absurd (d (same_Some y x (sym e ∙ is)))) (part_all clause trail i free l was y c)))
 
+-- the number of a held clause
+pub number_within : (clauses : List (List Lit)) (id : ℕ) (clause : List Lit) → HasClause clauses id clause → (0 < id) × (id ≤ length clauses)
+number_within clauses zero clause h = absurd h
+number_within clauses (suc i) clause h = let l = slice_get_within clauses i clause h in (omega arith, omega (arith, l))
+
 -- a literal of a held clause is of a variable below variable_count
 pub within_of : (clauses : List (List Lit)) (variable_count id : ℕ) (clause : List Lit) (x : Lit) →
     All (λ w. All (λ (y : Lit). y.var < variable_count) w) clauses
@@ -229,6 +235,13 @@ pub conflict_exact : (clauses : List (List Lit)) (trail : List Entry) (found : F
     → (found ≡ Quiet) ↔ ((other : ℕ) → IsConflict clauses trail other → ⊥)
 conflict_exact clauses trail found id e k = ((λ q. absurd (let both = sym e ∙ q in cc)), (λ n. absurd (n id k)))
 
+-- what a spreading ends with is one thing
+pub quiet_or_false : (id : ℕ) → Quiet ≡ False id → ⊥
+quiet_or_false id e = cc
+
+pub one_false : (m n : ℕ) → False m ≡ False n → m ≡ n
+one_false m n e = cc
+
 -- an entry gives its variable's value
 pub has_value : (trail : List Entry) (var : ℕ) (e : Entry) → e.lit.var ≡ var → (q : ℕ) × IsAt trail q e
     → HasValue trail var (record { value = not e.lit.negated; level = e.level; reason = e.reason })
@@ -246,3 +259,8 @@ has_value trail var e v (q, h) = (
     ),
   ),
 )
+
+-- a clause is false where one literal is, and each other one of the clause
+pub all_but_one : (clause : List Lit) (trail : List Entry) (x : Lit) → IsFalse trail x → ((y : Lit) → Contains clause y → y ≢ x → IsFalse trail y)
+    → (y : Lit) → Contains clause y → IsFalse trail y
+all_but_one clause trail x f others y c = ⊎_elim (λ e. subst (IsFalse trail) (sym e) f) (λ d. others y c d) (lit_cases y x)

@@ -17,6 +17,7 @@ use Rattle.std.proofs.Common.{
   length,
   take,
   get_or,
+  replicate,
   set,
   ◌⊎◌,
   inl,
@@ -42,18 +43,19 @@ use Rattle.std.proofs.Common.{
 }
 use Rattle.std.proofs.Math.Seq.{get_or-append_seam}
 use Rattle.std.proofs.lemmas.Bool.{cases_eq, cases_lt}
-use Rattle.std.proofs.lemmas.List.{get_or-take, get_or_append_left}
+use Rattle.std.proofs.lemmas.List.{get_or-take, get_or_append_left, length-replicate, get_or-replicate}
 use Rattle.std.proofs.lemmas.List.Elements.{All-push}
 use Rattle.std.proofs.lemmas.Option.{same_Some, slice_get-get_or, slice_get_within}
 use Rattle.ygg_cnf_set.specs.LiteralSet.{code_of}
 use Rattle.ygg_cnf.specs.Literals.{complement}
 use Rattle.ygg_cnf.specs.declared.lit.Lit.{Lit}
 use Rattle.ygg_watch.specs.Propagation.{Propagation, Spreads, Implies}
-use Rattle.ygg_watch.proofs.AssignmentLemmas.{not_both_on, at_take, take_at, at_start, keep_all}
+use Rattle.ygg_watch.proofs.AssignmentLemmas.{fits_below, not_both_on, at_take, take_at, at_start, keep_all}
 use Rattle.ygg_watch.proofs.TrailLemmas.{entry_within, at_front, at_in}
 use Rattle.ygg_watch.specs.Assignments.{IsTrail, IsLevelled}
 use Rattle.ygg_watch.specs.Trail.{IsAt, keep_level, IsOnTrail}
 use Rattle.ygg_watch.specs.declared.entry.Entry.{Entry}
+use Rattle.ygg_watch.specs.declared.examine.Examined.TheVariants.{Fine, False, Stuck}
 use Rattle.ygg_watch.proofs.ListLemmas.{sibling_first, sibling_second, sibling_twice, sibling_within, lists_linked, lists_attached}
 use Rattle.ygg_watch.specs.Lists.{sibling, no_lit, lit_of, IsLinked, IsOwn, Among, IsLists, IsMember, IsPath, IsList}
 use Rattle.ygg_watch.specs.State.{IsLive, IsState}
@@ -147,6 +149,25 @@ watching_attached clauses watched trail frames head k x y h i clause l is =
     ))
     (λ s. inr s)
     (h i clause l is)
+
+-- a held clause has two watches, and its literals have lists
+module _ {clauses : List (List Lit)} {watched : List Lit} {next firsts pending : List ℕ} {trail : List Entry} {variable_count : ℕ} {frames : List Checkpoint}
+    {head seen : ℕ} (k : ℕ) (clause : List Lit) (live : IsLive clauses watched next firsts pending trail variable_count frames head seen)
+    (is : slice_get clauses k ≡ Some clause) where
+  pub is_held : k < length clauses
+  is_held = slice_get_within clauses k clause is
+
+  pub has_watches : 2 * k + 1 < length watched
+  has_watches = let l = is_held in let size = live.watched_size in omega (arith, l, size)
+
+  pub has_nodes : 2 * k + 1 < length next
+  has_nodes = let l = is_held in let size = live.next_size in omega (arith, l, size)
+
+  pub has_variable : (x : Lit) → Contains clause x → x.var < variable_count
+  has_variable x = lit_within clauses variable_count k clause x live.variables is
+
+  pub has_list : (x : Lit) → Contains clause x → code_of x < length firsts
+  has_list x c = fits_below x variable_count (length firsts) (has_variable x c) live.firsts_size
 
 pub live_attached : (clauses : List (List Lit)) (watched : List Lit) (next firsts : List ℕ) (trail : List Entry) (variable_count : ℕ) (frames : List Checkpoint)
     (head k : ℕ) (x y : Lit) (clause : List Lit)
@@ -427,6 +448,33 @@ path_more next more at (x ∷ xs) w (e, p) = (
       (path_more next more (get_or next x 0) xs (λ n a. w n (inr a)) p),
 )
 
+-- nothing is watched at first
+pub live_none : (variable_count : ℕ) → IsLive [] [] [] (replicate (2 * variable_count) 0) [] [] variable_count [] 0 0
+live_none variable_count = record {
+  variables = λ k d l. absurd (omega (arith, l));
+  watched_size = refl;
+  next_size = refl;
+  firsts_size = length-replicate (2 * variable_count) 0;
+  lists = λ c l. let inside : c < 2 * variable_count = let size = length-replicate {A = ℕ} (2 * variable_count) 0 in omega (arith, l, size) in record {
+    nodes = [];
+    path = get_or-replicate (2 * variable_count) c 0 0 inside;
+    once = tt;
+    own = λ n a. absurd a;
+    apart = λ n a. absurd a;
+    whole = λ n own out. let l = own.0 in absurd (omega (arith, l));
+  };
+  member = λ n clause l. absurd (omega (arith, l));
+  framed = record {
+    head_within = omega arith;
+    heads = λ j l. absurd (omega (arith, l));
+    seens = λ j l. absurd (omega (arith, l));
+    heads_rise = λ i j w l. absurd (omega (arith, l));
+    seens_rise = λ i j w l. absurd (omega (arith, l));
+    low = λ j q e l. absurd (omega (arith, l));
+  };
+  watching = λ k clause l. absurd (omega (arith, l));
+}
+
 pub live_added : (clauses : List (List Lit)) (watched : List Lit) (next firsts : List ℕ) (trail : List Entry) (variable_count : ℕ) (frames : List Checkpoint)
     (head seen : ℕ) (clause : List Lit)
     → IsLive clauses watched next firsts [] trail variable_count frames head seen → seen ≤ length clauses → All (λ (x : Lit). x.var < variable_count) clause
@@ -512,3 +560,10 @@ pub live_as : (c1 c2 : List (List Lit)) (watched : List Lit) (next firsts : List
     → IsLive c1 watched next firsts [] trail variable_count r1 head seen → c2 ≡ c1 → r2 ≡ r1 →
     IsLive c2 watched next firsts [] trail variable_count r2 head seen
 live_as c1 c2 watched next firsts trail variable_count r1 r2 head seen v e1 e2 = rw (e1, e2) v
+
+-- what a look at a clause ends with is one thing
+pub fine_or_false : Fine ≡ False → ⊥
+fine_or_false e = cc
+
+pub fine_or_stuck : Fine ≡ Stuck → ⊥
+fine_or_stuck e = cc

@@ -607,3 +607,8 @@ live_back clauses watched next firsts pending trail variable_count frames head s
 pub entry_push : (trail after : List Entry) (head : ℕ) (x : Lit) (e : Entry) → after ≡ trail ++ e ∷ [] → (d : Entry)
     × (IsAt trail head d × (d.lit ≡ complement x)) → (d : Entry) × (IsAt after head d × (d.lit ≡ complement x))
 entry_push trail after head x e is (d, (h, s)) = (d, (subst (λ (t : List Entry). IsAt t head d) (sym is) (at_front trail (e ∷ []) d head h), s))
+
+-- a clause that was read has its number
+pub has_read : (clauses : List (List Lit)) (i : ℕ) (clause : List Lit) → i < length clauses → clause ≡ get_or clauses i clause
+    → HasClause clauses (i + 1) clause
+has_read clauses i clause l is = has_clause clauses i clause (slice_get-get_or clauses i clause l ∙ ap Some (sym is))

@@ -1,8 +1,9 @@
-use Rattle.std.proofs.Common.{◌∙◌, arith, sym, ap}
+use Rattle.std.proofs.Common.{◌∙◌, arith, refl, sym, ap}
 use Rattle.ygg_cnf.proofs.Lits.{complement_twice}
 use Rattle.ygg_cnf.specs.Literals.{complement}
 use Rattle.ygg_watch.specs.Status.{state_of}
 use Rattle.ygg_watch.proofs.AssignmentLemmas.{filled}
+use Rattle.ygg_watch.proofs.StatusLemmas.{spreads_none}
 use Rattle.ygg_watch.proofs.StepLemmas.{live_head, spreads_on, at_spread}
 use Rattle.ygg_watch.proofs.visit.visit_all.Goals as goal
 
@@ -28,3 +29,36 @@ loop-head-preserved c = record {
   starts = c.visit.ensures.starts ∙ c.loop-head.invariant.starts;
   variable_count = c.visit.ensures.variable_count ∙ c.loop-head.invariant.variable_count;
 }
+
+pub loop-head-init : goal.loop-head-init
+loop-head-init c = record {
+  live = c.requires.live;
+  spreads = spreads_none (state_of c.args.clauses.now c.args.trail.now);
+  starts = refl;
+  variable_count = refl;
+}
+
+pub visit-requires-clause-live : goal.visit-requires-clause-live
+visit-requires-clause-live c = c.loop-head.invariant.live
+
+pub visit-requires-clause-entry : goal.visit-requires-clause-entry
+visit-requires-clause-entry c =
+    (c.at.result, (c.at.ensures, sym (complement_twice c.at.result.lit) ∙ ap complement (sym c.complement-lit.ensures)))
+
+pub returns-in-Some-clause-live : goal.returns-in-Some-clause-live
+returns-in-Some-clause-live c = c.visit.ensures.live
+
+pub returns-in-Some-clause-found : goal.returns-in-Some-clause-found
+returns-in-Some-clause-found c = c.in-Some.ensures.found
+
+pub overflow_add-head : goal.overflow_add-head
+overflow_add-head c = let l = c.loop-head-test.true in let fits = c.len.type_inv in omega (arith, l, fits)
+
+pub returns-clause-live : goal.returns-clause-live
+returns-clause-live c = c.loop-head.invariant.live
+
+pub returns-clause-spreads : goal.returns-clause-spreads
+returns-clause-spreads c = c.loop-head.invariant.spreads
+
+pub returns-clause-done : goal.returns-clause-done
+returns-clause-done c = let l = c.loop-head-test.false in let is = c.len.ensures in omega (arith, l, is)

@@ -1,4 +1,4 @@
-use Rattle.std.proofs.Common.{◌+◌, ◌≡◌, ◌≤◌, ℕ, length, arith, sym, ap, subst, List, [], ◌∙◌, refl}
+use Rattle.std.proofs.Common.{◌+◌, ◌≡◌, ◌≤◌, ℕ, length, arith, sym, ap, subst, List, [], ◌∙◌, refl, All}
 use Rattle.ygg_cnf.specs.declared.lit.Lit.{Lit}
 use Rattle.ygg_watch.proofs.PropagationLemmas.{variable_count_spreads}
 use Rattle.ygg_watch.specs.Status.{state_of}
@@ -7,8 +7,8 @@ use Rattle.ygg_watch.specs.Trail.{IsQuietBefore}
 use Rattle.ygg_watch.proofs.WatchLemmas.{quiet_of}
 use Rattle.ygg_watch.proofs.StepLemmas.{closed, live_as, live_spread, spreads_on}
 use Rattle.ygg_watch.proofs.watching.WatchPropagate.spread.Goals.{in-Some, in-None}
-use Rattle.ygg_watch.proofs.StatusLemmas.{quiet_exact, conflict_exact}
-use Rattle.ygg_watch.specs.Propagation.{IsConflict}
+use Rattle.ygg_watch.proofs.StatusLemmas.{quiet_exact, conflict_exact, quiet_or_false, one_false}
+use Rattle.ygg_watch.specs.Propagation.{IsConflict, IsWithin}
 use Rattle.ygg_watch.proofs.watching.WatchPropagate.spread.Goals as goal
 
 pub invariant_of-self-in-Stuck : goal.invariant_of-self-in-Stuck
@@ -124,3 +124,55 @@ spread-requires-clause-few c =
     let few = c.len.ensures.few in let is = c.len.ensures.len in let size = c.examine_all.ensures.live.watched_size in
     let same = ap (λ (l : List (List Lit)). length l) (c.as_slice-in-Stuck.ensures.value ∙ sym c.as_slice.ensures.value) in
     omega (arith, few, is, size, same)
+
+pub examine_all-requires-clause-live : goal.examine_all-requires-clause-live
+examine_all-requires-clause-live c =
+    let i = c.self.inside in
+    live_as i.clauses.items c.as_slice.result.now i.links.watched i.links.next i.links.firsts i.trail.entries.items i.trail.variable_count i.frames.items
+    c.as_slice-2.result.now i.head i.seen c.self.invariant.live c.as_slice.ensures.value c.as_slice-2.ensures.value
+
+pub examine_all-requires-clause-within : goal.examine_all-requires-clause-within
+examine_all-requires-clause-within c =
+    subst (λ (l : List (List Lit)). c.self.inside.seen ≤ length l) (sym c.as_slice.ensures.value) c.self.invariant.seen_within
+
+pub invariant_of-self : goal.invariant_of-self
+invariant_of-self c =
+    let i = c.self.inside in let v = c.self.invariant in
+    closed i.clauses.items c.as_slice.result.now c.examine_all.new.links.watched c.examine_all.new.links.next c.examine_all.new.links.firsts
+    c.examine_all.new.trail.entries.items c.examine_all.new.trail.starts.items c.examine_all.new.trail.variable_count i.frames.items c.as_slice-2.result.now _
+    i.head c.examine_all.new.seen c.examine_all.ensures.live c.as_slice.ensures.value c.as_slice-2.ensures.value
+    (v.levels ∙ ap (λ (z : List ℕ). length z) (sym c.examine_all.ensures.starts))
+    (let m = v.capacity_is in let r = c.examine_all.ensures.variable_count in omega (arith, m, r)) c.examine_all.ensures.within
+
+pub returns-in-False-clause-spreads : goal.returns-in-False-clause-spreads
+returns-in-False-clause-spreads c =
+    let i = c.self.inside in
+    subst (λ (p : Propagation). Spreads p (state_of i.clauses.items c.examine_all.new.trail)) c.self.view_is
+    (subst (λ (z : List (List Lit)). Spreads (state_of z i.trail) (state_of z c.examine_all.new.trail)) c.as_slice.ensures.value c.examine_all.ensures.spreads)
+
+pub returns-in-False-clause-open : goal.returns-in-False-clause-open
+returns-in-False-clause-open c e = absurd (quiet_or_false (c.examine_all.new.seen + 1) (sym e))
+
+pub returns-in-False-clause-found : goal.returns-in-False-clause-found
+returns-in-False-clause-found c id e =
+    let trail = c.examine_all.new.trail.entries.items in
+    subst (IsConflict c.self.inside.clauses.items trail) (one_false (c.examine_all.new.seen + 1) id e)
+    (subst (λ (l : List (List Lit)). IsConflict l trail (c.examine_all.new.seen + 1)) c.as_slice.ensures.value (c.in-False.ensures.conflict refl))
+
+pub spread-requires-clause-within : goal.spread-requires-clause-within
+spread-requires-clause-within c =
+    subst (λ (l : List (List Lit)). All (IsWithin c.examine_all.new.trail.variable_count) l)
+    (c.as_slice.ensures.value ∙ sym c.as_slice-in-Stuck.ensures.value) c.examine_all.ensures.live.variables
+
+pub returns-in-Stuck-clause-found : goal.returns-in-Stuck-clause-found
+returns-in-Stuck-clause-found c id e =
+    subst (λ (l : List (List Lit)). IsConflict l c.spread.new.trail.entries.items id) c.as_slice-in-Stuck.ensures.value (c.spread.ensures.found id e)
+
+pub returns-clause-found : goal.returns-clause-found
+returns-clause-found c id e =
+    let i = c.self.inside in let trail = c.visit_all.new.trail.entries.items in
+    elim c.match-visit_all.branch [
+      | in-Some w ↦ subst (IsConflict i.clauses.items trail) (one_false w.in-Some.id id (sym w.result-is ∙ e))
+          (subst (λ (l : List (List Lit)). IsConflict l trail w.in-Some.id) c.as_slice-3.ensures.value (rw w.in-Some.is at c.visit_all.ensures.found))
+      | in-None w ↦ absurd (quiet_or_false id (sym w.result-is ∙ e))
+    ]
