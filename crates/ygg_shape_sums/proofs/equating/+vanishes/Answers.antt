@@ -76,3 +76,13 @@ vanishes_split-returns-in_ok-no-in-Some-clause-width g t c =
     let b = c.vanishes_where.new.bank in let m = c.vanishes_where-in-Some.new.bank in
     subst (λ w. IfOk c.pick.result (λ (id : Id). HasWidth c.pick.new.bank id w)) (width_is m c.in_ok-yes-in-Some.yes 1
     (wider b m c.in_ok-yes-in-Some.yes 1 c.vanishes_where-in-Some.ensures.grows c.in_ok-yes-in-Some.ensures.width)) c.pick.ensures.width
+
+pub vanishes_split-returns-in_err-no-in-Some-clause-grows : goal.vanishes_split-returns-in_err-no-in-Some-clause-grows
+vanishes_split-returns-in_err-no-in-Some-clause-grows g t c =
+    extends_both c.args.bank.now c.vanishes_where.new.bank c.vanishes_where-in-Some.new.bank c.vanishes_where.ensures.grows
+    c.vanishes_where-in-Some.ensures.grows
+
+pub vanishes_split-returns-in_ok-no-in-Some-clause-grows : goal.vanishes_split-returns-in_ok-no-in-Some-clause-grows
+vanishes_split-returns-in_ok-no-in-Some-clause-grows g t c =
+    extends_both c.args.bank.now c.vanishes_where-in-Some.new.bank c.pick.new.bank (extends_both c.args.bank.now c.vanishes_where.new.bank
+    c.vanishes_where-in-Some.new.bank c.vanishes_where.ensures.grows c.vanishes_where-in-Some.ensures.grows) c.pick.ensures.grows
