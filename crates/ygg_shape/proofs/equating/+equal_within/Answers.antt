@@ -94,3 +94,37 @@ returns-in_ok-answer-in-Some-clause-made g t c =
     (c.as_slice-in-Some-2.ensures.value ∙ c.in_ok-others-in-Some.ensures) c.in_ok-yes-in-Some.ensures.made c.in_ok-no-in-Some.ensures.made
     (record { nodes = c.in_ok-split-in-Some.ensures.nodes; value = c.in_ok-split-in-Some.ensures.form }) c.in_ok-rest-in-Some.ensures.made
     (record { nodes = c.in_ok-answer-in-Some.ensures.nodes; value = c.in_ok-answer-in-Some.ensures.form })
+
+pub returns-in_err-no-in-Some-clause-grows : goal.returns-in_err-no-in-Some-clause-grows
+returns-in_err-no-in-Some-clause-grows g t c = extends_both _ _ _ c.equal_within.ensures.grows c.equal_within-in-Some.ensures.grows
+
+pub returns-in_err-split-in-Some-clause-grows : goal.returns-in_err-split-in-Some-clause-grows
+returns-in_err-split-in-Some-clause-grows g t c =
+    extends_both _ _ _ (extends_both _ _ _ c.equal_within.ensures.grows c.equal_within-in-Some.ensures.grows) c.pick.ensures.grows
+
+pub returns-in_err-rest-in-Some-clause-grows : goal.returns-in_err-rest-in-Some-clause-grows
+returns-in_err-rest-in-Some-clause-grows g t c =
+    extends_both _ _ _ (extends_both _ _ _ (extends_both _ _ _ c.equal_within.ensures.grows c.equal_within-in-Some.ensures.grows) c.pick.ensures.grows)
+    c.equal_within-in-Some-2.ensures.grows
+
+pub shared-requires : goal.shared-requires
+shared-requires g t c = c.requires.pairs
+
+pub sides-requires : goal.sides-requires
+sides-requires g t c = c.requires.pairs
+
+pub sides-requires-in-Some : goal.sides-requires-in-Some
+sides-requires-in-Some g t c = c.requires.pairs
+
+pub without-requires : goal.without-requires
+without-requires g t c = c.requires.pairs
+
+pub returns-in_err-answer-in-Some-clause-grows : goal.returns-in_err-answer-in-Some-clause-grows
+returns-in_err-answer-in-Some-clause-grows g t c =
+    extends_both _ _ _ (extends_both _ _ _ (extends_both _ _ _ (extends_both _ _ _ c.equal_within.ensures.grows c.equal_within-in-Some.ensures.grows)
+    c.pick.ensures.grows) c.equal_within-in-Some-2.ensures.grows) c.both.ensures.grows
+
+pub returns-in_ok-answer-in-Some-clause-grows : goal.returns-in_ok-answer-in-Some-clause-grows
+returns-in_ok-answer-in-Some-clause-grows g t c =
+    extends_both _ _ _ (extends_both _ _ _ (extends_both _ _ _ (extends_both _ _ _ c.equal_within.ensures.grows c.equal_within-in-Some.ensures.grows)
+    c.pick.ensures.grows) c.equal_within-in-Some-2.ensures.grows) c.both.ensures.grows

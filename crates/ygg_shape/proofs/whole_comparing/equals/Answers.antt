@@ -2,7 +2,7 @@ use Rattle.std.proofs.Common.{◌+◌, ◌<◌, List, All, length, sym, subst, a
 use Rattle.ygg_shape_cells.specs.ygg_bank_proofs_Widths.{extends_both}
 use Rattle.ygg_shape_cells.specs.ygg_bank.declared.node.Id.{Id}
 use Rattle.ygg_shape.specs.Comparing.{compared, IsDigit}
-use Rattle.ygg_shape_cells.proofs.Steps.{EachTwo, each_two_goes}
+use Rattle.ygg_shape_cells.proofs.Steps.{EachTwo, each_two_goes, each_two_value, each_two_nodes}
 use Rattle.ygg_shape_cells.proofs.Whole.{alike_at, same_count}
 use Rattle.ygg_shape.proofs.Listed.{digits_more}
 use Rattle.ygg_shape.proofs.whole_comparing.equals.Goals as goal
@@ -45,3 +45,13 @@ returns-in_err-digit-clause-grows g c =
 pub returns-in_err-push-clause-grows : goal.returns-in_err-push-clause-grows
 returns-in_err-push-clause-grows g c =
     extends_both c.args.bank.now c.loop-place.bank c.equal.new.bank c.loop-place.invariant.grows c.equal.ensures.grows
+
+pub returns-clause-nodes : goal.returns-clause-nodes
+returns-clause-nodes g c =
+    each_two_nodes (compared (g.B.Book.kinds c.args.book.now)) c.args.ones.now c.args.twos.now c.args.bank.now c.loop-place.place c.loop-place.digits.items
+    c.loop-place.bank c.loop-place-test.false c.loop-place.invariant.went
+
+pub returns-clause-form : goal.returns-clause-form
+returns-clause-form g c =
+    each_two_value (compared (g.B.Book.kinds c.args.book.now)) c.args.ones.now c.args.twos.now c.args.bank.now c.loop-place.place c.loop-place.digits.items
+    c.loop-place.bank c.loop-place-test.false c.loop-place.invariant.went

@@ -40,3 +40,13 @@ loop-left-preserved g c =
       grows = extends_both old now c.join_one.new.bank c.loop-left.invariant.grows c.join_one.ensures.grows;
       bank = c.join_one.ensures.bank;
     }
+
+pub join_one-requires-clause-one : goal.join_one-requires-clause-one
+join_one-requires-clause-one g c = c.loop-left.invariant.digits (c.loop-left.left - 1) _ (omega (arith, c.loop-left.invariant.left, c.loop-left-test.true))
+
+pub bounds-digits-left : goal.bounds-digits-left
+bounds-digits-left g c = omega (arith, c.loop-left.invariant.left, c.loop-left-test.true)
+
+pub returns-in_err-all-2-clause-grows : goal.returns-in_err-all-2-clause-grows
+returns-in_err-all-2-clause-grows g c =
+    extends_both c.args.bank.now c.loop-left.bank c.join_one.new.bank c.loop-left.invariant.grows c.join_one.ensures.grows

@@ -4,10 +4,13 @@ use Rattle.ygg_shape_words.specs.ygg_bank.Nodes.{HasWidth}
 use Rattle.ygg_shape_words.specs.ygg_bank.declared.node.Id.{Id}
 use Rattle.ygg_shape_words.proofs.Fit.{can_pick}
 use Rattle.ygg_shape_sums.proofs.Reduces.{sum_fits}
-use Rattle.ygg_shape_sums.proofs.Fit.{parts_wider, facts_wider, split_digit}
+use Rattle.ygg_shape_sums.proofs.Fit.{parts_wider, facts_wider, facts_more, split_digit}
 use Rattle.ygg_shape_sums.proofs.Steps.{within_zero, within_split}
 use Rattle.ygg_shape_sums.specs.Gathers.{split_of}
+use Rattle.ygg_shape_sums.specs.Equates.{IsFound, vanishes_within}
 use Rattle.ygg_shape_sums.specs.Parts.{PartsFit, Sum}
+use Rattle.ygg_shape_sums.specs.Readings.{FactsFit}
+use Rattle.ygg_shape_sums.specs.declared.reading.Fact.{Fact}
 use Rattle.ygg_shape_sums.specs.declared.parts.Summand.{Summand}
 use Rattle.ygg_shape_sums.proofs.equating.+vanishes.Goals as goal
 
@@ -76,3 +79,37 @@ vanishes_split-returns-in_ok-no-in-Some-clause-width g t c =
     let b = c.vanishes_where.new.bank in let m = c.vanishes_where-in-Some.new.bank in
     subst (λ w. IfOk c.pick.result (λ (id : Id). HasWidth c.pick.new.bank id w)) (width_is m c.in_ok-yes-in-Some.yes 1
     (wider b m c.in_ok-yes-in-Some.yes 1 c.vanishes_where-in-Some.ensures.grows c.in_ok-yes-in-Some.ensures.width)) c.pick.ensures.width
+
+pub vanishes_split-returns-in_err-no-in-Some-clause-grows : goal.vanishes_split-returns-in_err-no-in-Some-clause-grows
+vanishes_split-returns-in_err-no-in-Some-clause-grows g t c =
+    extends_both c.args.bank.now c.vanishes_where.new.bank c.vanishes_where-in-Some.new.bank c.vanishes_where.ensures.grows
+    c.vanishes_where-in-Some.ensures.grows
+
+pub vanishes_split-returns-in_ok-no-in-Some-clause-grows : goal.vanishes_split-returns-in_ok-no-in-Some-clause-grows
+vanishes_split-returns-in_ok-no-in-Some-clause-grows g t c =
+    extends_both c.args.bank.now c.vanishes_where-in-Some.new.bank c.pick.new.bank (extends_both c.args.bank.now c.vanishes_where.new.bank
+    c.vanishes_where-in-Some.new.bank c.vanishes_where.ensures.grows c.vanishes_where-in-Some.ensures.grows) c.pick.ensures.grows
+
+pub vanishes_where-vanishes_within-requires : goal.vanishes_where-vanishes_within-requires
+vanishes_where-vanishes_within-requires g t c κs within =
+    let facts = subst (λ (fs : List Fact). FactsFit c.args.bank.now fs) (sym (c.as_slice.ensures.value ∙ c.in_ok-more.ensures))
+    (facts_more c.args.bank.now c.args.facts.now c.args.test c.args.digit c.requires.facts c.requires.test) in
+    (omega arith, (search rules, (c.requires.bank, (c.requires.width, (facts, c.requires.parts)))))
+
+pub vanishes_where-returns-clause-made : goal.vanishes_where-returns-clause-made
+vanishes_where-returns-clause-made g t c =
+    subst (λ (fs : List Fact). IfOk c.vanishes_within.result (λ (id : Id). IsFound (vanishes_within (g.B.Book.kinds c.args.book.now) c.args.width
+    c.args.depth c.args.left.now fs c.args.sum.now) c.args.bank.now c.vanishes_within.new.bank id c.vanishes_within.new.left))
+    (c.as_slice.ensures.value ∙ c.in_ok-more.ensures) c.vanishes_within.ensures.made
+
+pub vanishes_within-reduce-requires-clause-facts : goal.vanishes_within-reduce-requires-clause-facts
+vanishes_within-reduce-requires-clause-facts g t c = c.requires.facts
+
+pub vanishes_within-reduce-requires-clause-parts : goal.vanishes_within-reduce-requires-clause-parts
+vanishes_within-reduce-requires-clause-parts g t c = c.requires.parts
+
+pub vanishes_within-vanishes-requires-clause-parts : goal.vanishes_within-vanishes-requires-clause-parts
+vanishes_within-vanishes-requires-clause-parts g t c = c.requires.parts
+
+pub vanishes_split-vanishes-requires-clause-parts : goal.vanishes_split-vanishes-requires-clause-parts
+vanishes_split-vanishes-requires-clause-parts g t c = c.requires.parts

@@ -1,4 +1,4 @@
-use Rattle.ygg_shape_words.specs.ygg_bank_proofs_Widths.{wider}
+use Rattle.ygg_shape_words.specs.ygg_bank_proofs_Widths.{wider, extends_both}
 use Rattle.ygg_shape_words.proofs.Fit.{alike}
 use Rattle.ygg_shape_sums.proofs.Fit.{parts_wider}
 use Rattle.ygg_shape_sums.proofs.siding.vanishes.Goals as goal
@@ -13,3 +13,11 @@ same-requires g c =
       words = alike c.side-2.new.bank c.in_ok-one.one c.in_ok-two.two c.args.width
           (wider c.side.new.bank c.side-2.new.bank c.in_ok-one.one c.args.width c.side-2.ensures.grows c.in_ok-one.ensures.width) c.in_ok-two.ensures.width;
     }
+
+pub returns-in_err-two-clause-grows : goal.returns-in_err-two-clause-grows
+returns-in_err-two-clause-grows g c = extends_both c.args.bank.now c.side.new.bank c.side-2.new.bank c.side.ensures.grows c.side-2.ensures.grows
+
+pub returns-clause-grows : goal.returns-clause-grows
+returns-clause-grows g c =
+    extends_both c.args.bank.now c.side-2.new.bank c.same.new.bank
+    (extends_both c.args.bank.now c.side.new.bank c.side-2.new.bank c.side.ensures.grows c.side-2.ensures.grows) c.same.ensures.grows

@@ -1,5 +1,5 @@
 use Rattle.std.proofs.Common.{rules, ◌<◌, Some, sym, ap, ◌∙◌, subst, arith}
-use Rattle.ygg_bank.proofs.Widths.{wider, width_is, extends_both}
+use Rattle.ygg_bank.proofs.Widths.{wider, width_is, extends_self, extends_both}
 use Rattle.ygg_shape_words.proofs.Each.{each_ok, this_ok, on_ok}
 use Rattle.ygg_shape_words.proofs.Fit.{alike, alike_wider, can_pick, known_wider, known_learned}
 use Rattle.ygg_shape_words.proofs.Steps.{zero_answer, one_answer, known_answer, plain_answer, split_answer, either_answer, never_answer, against_answer}
@@ -251,3 +251,48 @@ pub returns-in_ok-answer-in-Against-clause-grows : goal.returns-in_ok-answer-in-
 returns-in_ok-answer-in-Against-clause-grows g t c =
     extends_both c.args.bank.now c.make-in-Against.new.self c.same_within-in-Against.new.bank c.make-in-Against.ensures.grows
     c.same_within-in-Against.ensures.grows
+
+pub same_within-requires : goal.same_within-requires
+same_within-requires g t c κs within =
+    let known = subst (λ (s : SoFar). KnownFit c.args.bank.now s.known) (sym c.spend.ensures) c.requires.known in
+    (omega arith, (search rules, (c.requires.bank, (c.in-Split.ensures.fits.1, known))))
+
+pub same_within-requires-in-Either : goal.same_within-requires-in-Either
+same_within-requires-in-Either g t c κs within =
+    let known = subst (λ (s : SoFar). KnownFit c.args.bank.now s.known) (sym c.spend-in-Either.ensures) c.requires.known in
+    (omega arith, (search rules, (c.requires.bank, (c.in-Either.ensures.fits.0, known))))
+
+pub form_at-requires-clause-known : goal.form_at-requires-clause-known
+form_at-requires-clause-known g t c = c.requires.known
+
+pub returns-in_ok-answer-in-Against-clause-known : goal.returns-in_ok-answer-in-Against-clause-known
+returns-in_ok-answer-in-Against-clause-known g t c =
+    let now = c.same_within-in-Against.new.bank in
+    on_ok c.learn-in-Against.result c.learn-in-Against.ensures.learned
+    (λ learned. known_learned now now c.same_within-in-Against.new.progress c.learn-in-Against.new.self c.args.one c.args.two
+    c.in_ok-answer-in-Against.answer (extends_self now) c.in_ok-answer-in-Against.ensures.known c.in_ok-answer-in-Against.ensures.width learned)
+
+pub returns-in_ok-answer-in-Against-clause-width : goal.returns-in_ok-answer-in-Against-clause-width
+returns-in_ok-answer-in-Against-clause-width g t c =
+    this_ok _ c.learn-in-Against.result c.in_ok-answer-in-Against.answer c.learn-in-Against.ensures.learned c.learn-in-Against.ensures.answer
+    (λ learned. c.in_ok-answer-in-Against.ensures.width)
+
+pub returns-in_ok-answer-in-Either-clause-width : goal.returns-in_ok-answer-in-Either-clause-width
+returns-in_ok-answer-in-Either-clause-width g t c =
+    this_ok _ c.learn-in-Either.result c.in_ok-answer-in-Either.answer c.learn-in-Either.ensures.learned c.learn-in-Either.ensures.answer
+    (λ learned. c.in_ok-answer-in-Either.ensures.width)
+
+pub make-requires-in-Against : goal.make-requires-in-Against
+make-requires-in-Against g t c = c.in-Against.ensures.fits.1
+
+pub returns-in-Known-clause-known : goal.returns-in-Known-clause-known
+returns-in-Known-clause-known g t c = c.requires.known
+
+pub plain-requires : goal.plain-requires
+plain-requires g t c = c.requires.words
+
+pub plain-requires-in-Plain : goal.plain-requires-in-Plain
+plain-requires-in-Plain g t c = c.requires.words
+
+pub returns-in-Known-clause-grows : goal.returns-in-Known-clause-grows
+returns-in-Known-clause-grows g t c = extends_self c.args.bank.now

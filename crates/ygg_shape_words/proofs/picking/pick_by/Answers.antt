@@ -1,5 +1,5 @@
 use Rattle.std.proofs.Common.{IfOk, sym, ◌∙◌, subst}
-use Rattle.ygg_bank.proofs.Widths.{has_width, width_is}
+use Rattle.ygg_bank.proofs.Widths.{has_width, width_is, extends_both}
 use Rattle.ygg_bank.specs.Nodes.{HasWidth}
 use Rattle.ygg_bank.specs.declared.node.Id.{Id}
 use Rattle.ygg_shape_words.proofs.Fit.{other_has, other_and, other_or}
@@ -41,3 +41,13 @@ returns-in_ok-other-in-YesIsZero-clause-inputs g c = λ next h. c.make-in-YesIsZ
 
 pub returns-in_ok-other-in-NoIsOne-clause-inputs : goal.returns-in_ok-other-in-NoIsOne-clause-inputs
 returns-in_ok-other-in-NoIsOne-clause-inputs g c = λ next h. c.make-in-NoIsOne-2.ensures.inputs next (c.make-in-NoIsOne.ensures.inputs next h)
+
+pub returns-in_ok-other-in-YesIsZero-clause-grows : goal.returns-in_ok-other-in-YesIsZero-clause-grows
+returns-in_ok-other-in-YesIsZero-clause-grows g c =
+    extends_both c.args.bank.now c.make-in-YesIsZero.new.self c.make-in-YesIsZero-2.new.self c.make-in-YesIsZero.ensures.grows
+    c.make-in-YesIsZero-2.ensures.grows
+
+pub returns-in_ok-other-in-NoIsOne-clause-grows : goal.returns-in_ok-other-in-NoIsOne-clause-grows
+returns-in_ok-other-in-NoIsOne-clause-grows g c =
+    extends_both c.args.bank.now c.make-in-NoIsOne.new.self c.make-in-NoIsOne-2.new.self c.make-in-NoIsOne.ensures.grows
+    c.make-in-NoIsOne-2.ensures.grows
