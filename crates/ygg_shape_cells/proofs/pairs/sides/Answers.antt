@@ -16,4 +16,5 @@ loop-pair-preserved c =
 
 pub returns : goal.returns
 returns c =
-    sides_done c.args.bank.now c.args.test c.args.value c.args.pairs.now c.loop-pair.pair-index c.loop-pair.found.items c.loop-pair-test.false c.loop-pair.invariant
+    sides_done c.args.bank.now c.args.test c.args.value c.args.pairs.now c.loop-pair.pair-index c.loop-pair.found.items
+    c.loop-pair-test.false c.loop-pair.invariant
