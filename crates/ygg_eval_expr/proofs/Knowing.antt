@@ -53,6 +53,7 @@ use Rattle.ygg_meaning_laws.proofs.Parts.{
   values_in,
   apply_typed,
   binary_typed,
+  not_typed,
   at_typed,
   pick_typed,
   resize_typed,
@@ -109,6 +110,11 @@ binary_can k first a op at b can =
       operate =
           can_operate op (value_in k a) (value_in k b) t.operands;
     }
+
+pub not_can : (k : Known) (first : Place) (a : Expr) → CanEvaluate k (tree.Not first a) → CanEvaluate k a
+not_can k first a can =
+    let t = not_typed (functions_of k.defs) can.scope (scope_in k) first a can.agrees can.without_errors in
+    part_can k (tree.Not first a) a can t.operand.without_errors
 
 pub at_can : (k : Known) (a : Expr) (bracket : Place) (i : Expr) → CanEvaluate k (tree.At a bracket i) → CanEvaluate k a × CanEvaluate k i
 at_can k a bracket i can =

@@ -11,7 +11,9 @@ use Rattle.ygg_syntax.specs.declared.tree.Expr.TheFolds.{fold-roll-Expr}
 use Rattle.ygg_value.specs.declared.operation.Op.{Op}
 use Rattle.ygg_value.specs.declared.row.Value.{Value}
 use Rattle.ygg_value.specs.declared.row.Value.TheVariants as value
+use Rattle.ygg_value.specs.Words.{word, not_of, resized}
 use Rattle.ygg_value.specs.Values.{word_in, digit, apply_value, part_of}
+use Rattle.ygg_meaning_laws.specs.Environments.{look_up}
 use Rattle.ygg_meaning_laws.specs.Meaning.{functions_of, node_value, value_with, is_one, quantified, row_of, filled}
 use Rattle.ygg_meaning_laws.specs.Meaning as meaning
 use Rattle.ygg_eval_expr.specs.Known.{Known, scope_in, value_in, with_number}
@@ -23,6 +25,21 @@ Means = meaning.Scope → Value
 each : (k : Known) (es : List Expr) → map (λ (part : Means). part (scope_in k)) (map (value_with (functions_of k.defs)) es) ≡ map (value_in k) es
 each k [] = refl
 each k (e ∷ es) = ap (λ vs. value_in k e ∷ vs) (each k es)
+
+pub valued_constant : (k : Known) (v w : Numeral) → value_in k (tree.Constant v w) ≡ value.Word (word w.value v.value)
+valued_constant k v w =
+    ap (value_in k) (sym (tree.rolls-Constant v w))
+    ∙ ap (λ (v : Means). v (scope_in k)) (fold-roll-Expr Means (node_value (functions_of k.defs)) (Expr-F.Constant v w))
+
+pub valued_low : (k : Known) (at : Place) (x : Name) → value_in k (tree.Low at x) ≡ look_up x.text k.low
+valued_low k at x =
+    ap (value_in k) (sym (tree.rolls-Low at x))
+    ∙ ap (λ (v : Means). v (scope_in k)) (fold-roll-Expr Means (node_value (functions_of k.defs)) (Expr-F.Low at x))
+
+pub valued_variable : (k : Known) (x : Name) → value_in k (tree.Variable x) ≡ look_up x.text k.own
+valued_variable k x =
+    ap (value_in k) (sym (tree.rolls-Variable x))
+    ∙ ap (λ (v : Means). v (scope_in k)) (fold-roll-Expr Means (node_value (functions_of k.defs)) (Expr-F.Variable x))
 
 pub valued_apply : (k : Known) (f : Name) (es : List Expr) → value_in k (tree.Apply f es) ≡ functions_of k.defs f.text (map (value_in k) es)
 valued_apply k f es =
@@ -36,6 +53,11 @@ valued_binary k first a op at b =
     ap (value_in k) (sym (tree.rolls-Binary first a op at b))
     ∙ ap (λ (v : Means). v (scope_in k)) (fold-roll-Expr Means (node_value (functions_of k.defs)) (Expr-F.Binary first a op at b))
 
+pub valued_not : (k : Known) (first : Place) (a : Expr) → value_in k (tree.Not first a) ≡ value.Word (not_of (word_in (value_in k a)))
+valued_not k first a =
+    ap (value_in k) (sym (tree.rolls-Not first a))
+    ∙ ap (λ (v : Means). v (scope_in k)) (fold-roll-Expr Means (node_value (functions_of k.defs)) (Expr-F.Not first a))
+
 pub valued_at : (k : Known) (a : Expr) (bracket : Place) (i : Expr) → value_in k (tree.At a bracket i) ≡ part_of (value_in k a) (word_in (value_in k i)).bits
 valued_at k a bracket i =
     ap (value_in k) (sym (tree.rolls-At a bracket i)) ∙ ap (λ (v : Means). v (scope_in k))
@@ -45,6 +67,12 @@ pub valued_pick : (k : Known) (first : Place) (c a b : Expr) → value_in k (tre
 valued_pick k first c a b =
     ap (value_in k) (sym (tree.rolls-Pick first c a b))
     ∙ ap (λ (v : Means). v (scope_in k)) (fold-roll-Expr Means (node_value (functions_of k.defs)) (Expr-F.Pick first c a b))
+
+pub valued_resize : (k : Known) (first : Place) (a : Expr) (w : Numeral) →
+    value_in k (tree.Resize first a w) ≡ value.Word (resized (word_in (value_in k a)) w.value)
+valued_resize k first a w =
+    ap (value_in k) (sym (tree.rolls-Resize first a w))
+    ∙ ap (λ (v : Means). v (scope_in k)) (fold-roll-Expr Means (node_value (functions_of k.defs)) (Expr-F.Resize first a w))
 
 pub valued_fill : (k : Known) (first : Place) (m : Numeral) (a : Expr) → value_in k (tree.Fill first m a) ≡ value.Row (filled m.value (value_in k a))
 valued_fill k first m a =

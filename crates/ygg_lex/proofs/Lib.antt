@@ -5,3 +5,4 @@ pub mod Numbers
 pub mod Runs
 pub mod Steps
 pub mod Symbols
+pub mod Longer

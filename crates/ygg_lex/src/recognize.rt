@@ -44,7 +44,7 @@ fn with_digit(number: u64, digit: u8) -> Option<u64>
 }
 
 /// The number of these digits, unless it has a leading zero or is 2 ^ 64 or more.
-#[tactic(auto, using(crate::proofs::Numbers::too_great, crate::proofs::Numbers::all_digits))]
+#[tactic(auto)]
 pub fn number_of(digits: &[u8]) -> Option<u64>
     ensures { result ≡ number_of digits.now }
 {

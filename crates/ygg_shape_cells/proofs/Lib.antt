@@ -18,3 +18,4 @@ pub mod Singles
 pub mod Makers
 pub mod Whole
 pub mod Freshness
+pub mod Known

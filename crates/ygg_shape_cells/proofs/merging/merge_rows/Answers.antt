@@ -1,5 +1,7 @@
-use Rattle.std.proofs.Common.{◌∙◌}
+use Rattle.std.proofs.Common.{◌+◌, ◌<◌, length, sym, subst, arith, ◌∙◌}
 use Rattle.ygg_shape_words.specs.ygg_bank_proofs_Widths.{wider, extends_both}
+use Rattle.ygg_shape_cells.specs.Making.{merged_row}
+use Rattle.ygg_shape_cells.proofs.Steps.{EachTwo, each_two_goes}
 use Rattle.ygg_shape_cells.proofs.Wider.{rows_at}
 use Rattle.ygg_shape_cells.proofs.merging.merge_rows.Goals as goal
 
@@ -19,3 +21,19 @@ returns-in_err-row-clause-grows g c =
 pub returns-in_err-push-clause-grows : goal.returns-in_err-push-clause-grows
 returns-in_err-push-clause-grows g c =
     extends_both c.args.bank.now c.loop-place.bank c.merge_row.new.bank c.loop-place.invariant.grows c.merge_row.ensures.grows
+
+pub loop-place-preserved : goal.loop-place-preserved
+loop-place-preserved g c =
+    let h = c.requires.rows in
+    let step = merged_row (g.B.Book.kinds c.args.book.now) c.args.test in
+    let q : c.loop-place.place < length c.args.no.now = omega (arith, h.count, c.loop-place-test.true) in
+    record {
+      went = subst (λ z. EachTwo step c.args.yes.now c.args.no.now c.args.bank.now (c.loop-place.place + 1) z c.merge_row.new.bank)
+          (sym c.in_ok-push.ensures.ok)
+          (each_two_goes step c.args.yes.now c.args.no.now c.args.bank.now c.loop-place.place c.loop-place.table c.loop-place.bank c.as_slice.result.now _
+          c.as_slice-in-loop-place.result.now _ c.in_ok-row.row c.merge_row.new.bank c.loop-place-test.true q
+          (c.as_slice.ensures ∙ c.index-yes-place.is) (c.as_slice-in-loop-place.ensures ∙ c.index-no-place.is)
+          c.in_ok-row.ensures.nodes c.in_ok-row.ensures.form c.loop-place.invariant.went);
+      grows = extends_both c.args.bank.now c.loop-place.bank c.merge_row.new.bank c.loop-place.invariant.grows c.merge_row.ensures.grows;
+      bank = c.merge_row.ensures.bank;
+    }

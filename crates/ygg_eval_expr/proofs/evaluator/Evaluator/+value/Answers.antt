@@ -1,4 +1,4 @@
-use Rattle.std.proofs.Common.{◌≡◌, ◌<◌, ◌^◌, ◌∷◌, [], map, get_or, true, false, refl, sym, ap, ◌∙◌, subst, arith}
+use Rattle.std.proofs.Common.{◌≡◌, ◌<◌, ◌^◌, ◌++◌, append-nil, ◌∷◌, [], map, get_or, true, false, refl, sym, ap, ◌∙◌, subst, arith}
 use Rattle.std.proofs.lemmas.Bool.{eq-eqb, ne_eqb}
 use Rattle.std.proofs.lemmas.List.{map-append}
 use Rattle.ygg_syntax.specs.declared.tree.Expr.{Expr}
@@ -15,27 +15,46 @@ use Rattle.ygg_eval_expr.proofs.Walking.{last_pushed, last_replaced, at_number, 
 use Rattle.ygg_eval_expr.proofs.Weighed.{
   arguments_lighter,
   call_lighter,
+  left_lighter,
+  right_lighter,
+  denied_lighter,
+  whole_lighter,
   index_lighter,
+  test_lighter,
   first_lighter,
   second_lighter,
+  resized_lighter,
+  filled_lighter,
   words_lighter,
   quantified_lighter,
   rest_lighter,
 }
 use Rattle.ygg_eval_expr.proofs.Ready.{
+  gives_constant,
+  gives_low,
+  gives_variable,
   ready_values,
   ready_call,
   gives_call,
   ready_body,
   gives_body,
+  ready_left,
+  ready_right,
   ready_operated,
   gives_operated,
+  ready_denied,
+  gives_denied,
+  ready_whole,
   ready_index,
   gives_part,
+  ready_test,
   ready_first,
   ready_second,
   gives_picked,
+  ready_resized,
+  gives_resized,
   ready_width,
+  ready_filled,
   ready_equal,
   gives_filled,
   ready_words,
@@ -122,6 +141,22 @@ quantified-loop-i-preserved t c =
       ends = last_replaced self.numbers.now c.loop-i.numbers.items _ c.numbered-in-loop-i.result refl c.loop-i.invariant.ends;
     }
 
+-- numbers and names
+
+pub value-returns-in-Constant : goal.value-returns-in-Constant
+value-returns-in-Constant t c = gives_constant (known_of c.args.self.now) c.args.e.now c.in-Constant.v c.in-Constant.w c.in-Constant.is
+
+pub value-returns-in-Low : goal.value-returns-in-Low
+value-returns-in-Low t c =
+    let low = env_of c.args.self.now.low.now in
+    gives_low (known_of c.args.self.now) c.args.e.now c.in-Low.field-0 c.in-Low.x c.as_slice.result.now (low ++ []) (held_value c.value_of.result)
+    c.in-Low.is c.as_slice.ensures (append-nil low) c.value_of.ensures
+
+pub value-returns-in-Variable : goal.value-returns-in-Variable
+value-returns-in-Variable t c =
+    gives_variable (known_of c.args.self.now) c.args.e.now c.in-Variable.x c.as_slice-in-Variable.result.now (held_value c.value_of-in-Variable.result)
+    c.in-Variable.is c.as_slice-in-Variable.ensures c.value_of-in-Variable.ensures
+
 -- a definition at its arguments
 
 pub value-values-requires : goal.value-values-requires
@@ -156,6 +191,22 @@ value-returns-in_ok-value-in-Apply t c =
 
 -- operators
 
+pub value-value-requires : goal.value-value-requires
+value-value-requires t c =
+    let k = known_of c.args.self.now in
+    let lighter = left_lighter k c.args.e.now c.in-Binary.field-0 c.in-Binary.a c.in-Binary.op c.in-Binary.field-3 c.in-Binary.b c.get.result.now
+        c.in-Binary.is c.get.ensures in
+    (omega arith, ready_left k c.args.e.now c.in-Binary.field-0 c.in-Binary.a c.in-Binary.op c.in-Binary.field-3 c.in-Binary.b c.get.result.now c.requires
+        c.in-Binary.is c.get.ensures)
+
+pub value-value-requires-in-Binary : goal.value-value-requires-in-Binary
+value-value-requires-in-Binary t c =
+    let k = known_of c.args.self.now in
+    let lighter = right_lighter k c.args.e.now c.in-Binary.field-0 c.in-Binary.a c.in-Binary.op c.in-Binary.field-3 c.in-Binary.b c.get-in-Binary.result.now
+        c.in-Binary.is c.get-in-Binary.ensures in
+    (omega arith, ready_right k c.args.e.now c.in-Binary.field-0 c.in-Binary.a c.in-Binary.op c.in-Binary.field-3 c.in-Binary.b c.get-in-Binary.result.now
+        c.requires c.in-Binary.is c.get-in-Binary.ensures)
+
 pub value-operated-requires : goal.value-operated-requires
 value-operated-requires t c =
     let k = known_of c.args.self.now in
@@ -173,7 +224,26 @@ value-returns-in_ok-b-in-Binary t c =
     (c.value-in-Binary-2.ensures ∙ c.in_ok-a-in-Binary.ensures ∙ ap (value_in k) c.get.ensures)
     (c.value-in-Binary-3.ensures ∙ c.in_ok-b-in-Binary.ensures ∙ ap (value_in k) c.get-in-Binary.ensures)
 
+-- `!`
+
+pub value-word-requires : goal.value-word-requires
+value-word-requires t c =
+    let k = known_of c.args.self.now in
+    let lighter = denied_lighter k c.args.e.now c.in-Not.field-0 c.in-Not.a c.get-in-Not.result.now c.in-Not.is c.get-in-Not.ensures in
+    (omega arith, ready_denied k c.args.e.now c.in-Not.field-0 c.in-Not.a c.get-in-Not.result.now c.requires c.in-Not.is c.get-in-Not.ensures)
+
+pub value-returns-in_ok-a-in-Not : goal.value-returns-in_ok-a-in-Not
+value-returns-in_ok-a-in-Not t c =
+    gives_denied (known_of c.args.self.now) c.args.e.now c.in-Not.field-0 c.in-Not.a c.get-in-Not.result.now c.in_ok-a-in-Not.a c.not.result c.in-Not.is
+    c.get-in-Not.ensures c.in_ok-a-in-Not.ensures c.not.ensures
+
 -- a part of a row or a table
+
+pub value-value-requires-in-At : goal.value-value-requires-in-At
+value-value-requires-in-At t c =
+    let k = known_of c.args.self.now in
+    let lighter = whole_lighter k c.args.e.now c.in-At.whole c.in-At.field-1 c.in-At.i c.get-in-At.result.now c.in-At.is c.get-in-At.ensures in
+    (omega arith, ready_whole k c.args.e.now c.in-At.whole c.in-At.field-1 c.in-At.i c.get-in-At.result.now c.requires c.in-At.is c.get-in-At.ensures)
 
 pub value-word-requires-in-At : goal.value-word-requires-in-At
 value-word-requires-in-At t c =
@@ -189,6 +259,14 @@ value-returns-in_ok-part-in-At t c =
     (c.in_ok-i-in-At.ensures ∙ ap (λ (e : Expr). word_in (value_in k e)) c.get-in-At-2.ensures) c.in_ok-part-in-At.ensures
 
 -- `pick`
+
+pub value-word-requires-in-Pick : goal.value-word-requires-in-Pick
+value-word-requires-in-Pick t c =
+    let k = known_of c.args.self.now in
+    let lighter = test_lighter k c.args.e.now c.in-Pick.field-0 c.in-Pick.test c.in-Pick.a c.in-Pick.b c.get-in-Pick.result.now c.in-Pick.is
+        c.get-in-Pick.ensures in
+    (omega arith, ready_test k c.args.e.now c.in-Pick.field-0 c.in-Pick.test c.in-Pick.a c.in-Pick.b c.get-in-Pick.result.now c.requires c.in-Pick.is
+        c.get-in-Pick.ensures)
 
 pub value-value-requires-then-test-eq1 : goal.value-value-requires-then-test-eq1
 value-value-requires-then-test-eq1 t c =
@@ -228,6 +306,19 @@ value-returns-in_ok-b-in-Pick t c =
 
 -- `resize`
 
+pub value-word-requires-in-Resize : goal.value-word-requires-in-Resize
+value-word-requires-in-Resize t c =
+    let k = known_of c.args.self.now in
+    let lighter = resized_lighter k c.args.e.now c.in-Resize.field-0 c.in-Resize.a c.in-Resize.w c.get-in-Resize.result.now c.in-Resize.is
+        c.get-in-Resize.ensures in
+    (omega arith, ready_resized k c.args.e.now c.in-Resize.field-0 c.in-Resize.a c.in-Resize.w c.get-in-Resize.result.now c.requires c.in-Resize.is
+        c.get-in-Resize.ensures)
+
+pub value-returns-in_ok-a-in-Resize : goal.value-returns-in_ok-a-in-Resize
+value-returns-in_ok-a-in-Resize t c =
+    gives_resized (known_of c.args.self.now) c.args.e.now c.in-Resize.field-0 c.in-Resize.a c.in-Resize.w c.get-in-Resize.result.now
+    c.in_ok-a-in-Resize.a c.resize.result c.in-Resize.is c.get-in-Resize.ensures c.in_ok-a-in-Resize.ensures c.resize.ensures
+
 pub value-overflow_cast-w : goal.value-overflow_cast-w
 value-overflow_cast-w t c =
     let within = ready_width (known_of c.args.self.now) c.args.e.now c.in-Resize.field-0 c.in-Resize.a c.in-Resize.w c.requires c.in-Resize.is in
@@ -243,6 +334,12 @@ value-resize-requires-clause-most t c = (ready_width
     (known_of c.args.self.now) c.args.e.now c.in-Resize.field-0 c.in-Resize.a c.in-Resize.w c.requires c.in-Resize.is).1
 
 -- `fill`
+
+pub value-word-requires-in-Fill : goal.value-word-requires-in-Fill
+value-word-requires-in-Fill t c =
+    let k = known_of c.args.self.now in
+    let lighter = filled_lighter k c.args.e.now c.in-Fill.field-0 c.in-Fill.m c.in-Fill.a c.get-in-Fill.result.now c.in-Fill.is c.get-in-Fill.ensures in
+    (omega arith, ready_filled k c.args.e.now c.in-Fill.field-0 c.in-Fill.m c.in-Fill.a c.get-in-Fill.result.now c.requires c.in-Fill.is c.get-in-Fill.ensures)
 
 pub value-row-requires : goal.value-row-requires
 value-row-requires t c =
