@@ -1,8 +1,7 @@
 -- What the first token of an expression leaves to come.
-use Rattle.std.proofs.Common.{◌≡◌, ℕ, List, [], ◌∷◌, ◌++◌, refl}
+use Rattle.std.proofs.Common.{◌≡◌, ℕ, List, ◌∷◌, refl}
 use Rattle.ygg_base.specs.declared.token.Keyword.TheVariants as word
 use Rattle.ygg_base.specs.declared.token.Symbol.TheVariants as sign
-use Rattle.ygg_base.specs.declared.token.Mark.{Mark}
 use Rattle.ygg_base.specs.declared.token.Mark.TheVariants as mark
 use Rattle.ygg_base.specs.declared.token.Token.{Token}
 use Rattle.ygg_syntax.specs.declared.tree.Place.{Place}
@@ -10,22 +9,7 @@ use Rattle.ygg_syntax.specs.declared.tree.Quantifier.{Quantifier}
 use Rattle.ygg_syntax.specs.declared.tree.Quantifier.TheVariants as quantifier
 use Rattle.ygg_syntax.specs.Expressions.{quantifier_word}
 use Rattle.ygg_syntax.specs.Reading.{token}
-use Rattle.ygg_syntax.specs.Pending.{
-  Pending,
-  exactly,
-  name,
-  number,
-  operator,
-  expression,
-  indices,
-  arguments,
-  rest_of_arguments,
-  more_expressions,
-  sign_of,
-  quantified,
-  step,
-  outcome,
-}
+use Rattle.ygg_syntax.specs.Pending.{Pending, exactly, name, number, operator, expression, indices, arguments, rest_of_arguments, more_expressions, sign_of, outcome}
 
 pub begins_constant : (n : ℕ) (at : Place) (rest : List Token) (qs : List Pending) →
     outcome (expression ∷ qs) (token (mark.Num n) at ∷ rest) ≡ outcome (sign_of sign.Colon ∷ number ∷ indices ∷ qs) rest

@@ -1,5 +1,5 @@
 -- Expressions that are read one after another.
-use Rattle.std.proofs.Common.{◌≡◌, ℕ, ◌+◌, ◌<◌, ◌≤◌, Bool, true, List, [], ◌∷◌, ◌++◌, length, map, refl, sym, ap, subst, ◌∙◌, arith, append_assoc, append-nil}
+use Rattle.std.proofs.Common.{◌≡◌, ◌<◌, true, List, [], ◌∷◌, ◌++◌, length, map, sym, ap, subst, ◌∙◌, arith, append_assoc, append-nil}
 use Rattle.ygg_base.specs.declared.token.Symbol.TheVariants as sign
 use Rattle.ygg_base.specs.declared.token.Mark.TheVariants as mark
 use Rattle.ygg_base.specs.declared.token.Token.{Token}
@@ -11,7 +11,6 @@ use Rattle.ygg_syntax.specs.Expressions.{Phrase, phrase, expr, symbol, any, some
 use Rattle.ygg_syntax.specs.Pending.{Pending, expression, indices, more_expressions, outcome}
 use Rattle.ygg_read.specs.ExpressionSteps.{Reads, Goes, GoesAsAtom}
 use Rattle.ygg_read.proofs.ExpressionPhrases.{joined, reads_token, reads_at, parts_at}
-use Rattle.ygg_read.proofs.ExpressionBegins.{begins_index, begins_more}
 
 -- an expression that indices may follow
 pub record AtomRead (from : List Token) (e : Expr) (now : List Token) : Type 0 where

@@ -1,7 +1,6 @@
 -- What an expression reads after its first token.
-use Rattle.std.proofs.Common.{◌≡◌, ℕ, ◌==◌, Bool, true, false, cond, ◌&&◌, List, [], ◌∷◌, ◌++◌, map, Option, Some, None, refl, sym, ap, ◌∙◌, subst, arith}
+use Rattle.std.proofs.Common.{◌≡◌, ℕ, ◌==◌, true, false, cond, List, [], ◌∷◌, ◌++◌, map, Option, Some, None, refl, sym, ap, ◌∙◌, arith}
 use Rattle.std.proofs.lemmas.Bool.Decides.{nat_tests}
-use Rattle.std.specs.Str.{bytes_eq}
 use Rattle.std.proofs.lemmas.Slice.Eq.{bytes_eq-Decides}
 use Rattle.ygg_base.specs.declared.token.Keyword.TheVariants as word
 use Rattle.ygg_base.specs.declared.token.Symbol.TheVariants as sign
@@ -17,25 +16,9 @@ use Rattle.ygg_value.specs.declared.operation.Op.{Op}
 use Rattle.ygg_syntax.specs.declared.tree.Expr.{Expr}
 use Rattle.ygg_syntax.specs.declared.tree.Expr.TheVariants as tree
 use Rattle.ygg_syntax.specs.declared.tree.Expr.TheOpen.{Expr-F}
-use Rattle.ygg_syntax.specs.declared.tree.Expr.TheFolds.{fold-Expr, fold-roll-Expr}
+use Rattle.ygg_syntax.specs.declared.tree.Expr.TheFolds.{fold-roll-Expr}
 use Rattle.ygg_syntax.specs.Reading.{Reading, token, same_mark, takes, passes, in_turn}
-use Rattle.ygg_syntax.specs.Expressions.{
-  Phrase,
-  node_phrase,
-  phrase,
-  expr,
-  symbol,
-  keyword,
-  named,
-  numbered,
-  whole,
-  any,
-  some,
-  more,
-  indexed,
-  operator_sign,
-  quantifier_word,
-}
+use Rattle.ygg_syntax.specs.Expressions.{Phrase, node_phrase, phrase, expr, symbol, keyword, named, numbered, whole, any, some, indexed, operator_sign, quantifier_word}
 
 equal : (n : ℕ) → n == n ≡ true
 equal n = grind (arith, nat_tests)

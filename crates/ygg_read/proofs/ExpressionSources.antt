@@ -1,6 +1,5 @@
 -- Right sides, by the kind of their block.
-use Rattle.std.proofs.Common.{◌≡◌, ℕ, Bool, true, false, List, [], ◌∷◌, ◌++◌, map, length, Option, Some, None, refl, sym, ap, ◌∙◌}
-use Rattle.ygg_base.specs.declared.token.Keyword.{Keyword}
+use Rattle.std.proofs.Common.{◌≡◌, false, List, [], ◌∷◌, map, Option, Some, None, refl, sym, ◌∙◌}
 use Rattle.ygg_base.specs.declared.token.Keyword.TheVariants as word
 use Rattle.ygg_base.specs.declared.token.Symbol.TheVariants as sign
 use Rattle.ygg_base.specs.declared.token.Mark.{Mark}
@@ -14,23 +13,8 @@ use Rattle.ygg_syntax.specs.declared.tree.Source.TheVariants as source
 use Rattle.ygg_syntax.specs.Reading.{Reading, token, same_mark, starts, takes, in_turn}
 use Rattle.ygg_syntax.specs.Expressions.{phrase, symbol, named, any}
 use Rattle.ygg_syntax.specs.Blocks.{bracketed, source_in}
-use Rattle.ygg_syntax.specs.Pending.{
-  Pending,
-  After,
-  leaves,
-  drops,
-  refuses,
-  after,
-  name,
-  expression,
-  right_side,
-  rest_of_arguments,
-  sign_of,
-  may_end,
-  step,
-  outcome,
-}
-use Rattle.ygg_read.proofs.Stopped.{next, goes_on}
+use Rattle.ygg_syntax.specs.Pending.{Pending, After, after, name, expression, right_side, rest_of_arguments, sign_of, outcome}
+use Rattle.ygg_read.proofs.Stopped.{next}
 use Rattle.ygg_read.proofs.ExpressionPhrases.{joined, reads_token}
 
 -- symbols that become the same with each token are the same

@@ -1,5 +1,5 @@
 -- Where a token can't come.
-use Rattle.std.proofs.Common.{◌≡◌, ℕ, ◌+◌, Bool, true, false, List, [], ◌∷◌, ◌++◌, length, Option, Some, None, is_some, refl, sym, ap, ◌∙◌, arith, append_assoc}
+use Rattle.std.proofs.Common.{◌≡◌, ℕ, false, List, [], ◌∷◌, ◌++◌, length, Some, None, refl, sym, ap, ◌∙◌, append_assoc}
 use Rattle.ygg_base.specs.declared.token.Keyword.TheVariants as word
 use Rattle.ygg_base.specs.declared.token.Symbol.{Symbol}
 use Rattle.ygg_base.specs.declared.token.Symbol.TheVariants as sign
@@ -9,41 +9,7 @@ use Rattle.ygg_base.specs.declared.token.Mark.TheVariants as mark
 use Rattle.ygg_base.specs.declared.token.Token.{Token}
 use Rattle.ygg_syntax.specs.declared.tree.Place.{Place}
 use Rattle.ygg_syntax.specs.Reading.{token, starts, same_mark}
-use Rattle.ygg_syntax.specs.Pending.{
-  Pending,
-  exactly,
-  name,
-  number,
-  operator,
-  expression,
-  indices,
-  arguments,
-  rest_of_arguments,
-  more_expressions,
-  sign_of,
-  Part,
-  index,
-  argument_list,
-  next_expression,
-  perhaps,
-  repeated,
-  beginning,
-  after,
-  after_expression,
-  after_arguments,
-  then_come,
-  after_operator,
-  operation_of,
-  After,
-  leaves,
-  drops,
-  refuses,
-  step,
-  End,
-  reads,
-  stops,
-  outcome,
-}
+use Rattle.ygg_syntax.specs.Pending.{Pending, exactly, name, number, operator, expression, indices, arguments, rest_of_arguments, more_expressions, sign_of, Part, index, argument_list, next_expression, perhaps, repeated, beginning, after, after_expression, after_arguments, then_come, after_operator, operation_of, After, leaves, drops, refuses, step, End, stops, outcome}
 use Rattle.ygg_read.specs.ExpressionSteps.{Stops}
 use Rattle.ygg_read.proofs.ExpressionPhrases.{same}
 

@@ -1,7 +1,6 @@
 -- What derives is read to its end: the symbols that are pending take the tokens of an expression.
-use Rattle.std.proofs.Common.{◌≡◌, ℕ, Bool, true, false, List, [], ◌∷◌, ◌++◌, map, if◌then◌else◌, Option, Some, None, refl, sym, ap, ◌∙◌, subst, append_assoc}
+use Rattle.std.proofs.Common.{◌≡◌, Bool, true, false, List, [], ◌∷◌, ◌++◌, map, if◌then◌else◌, Option, Some, None, refl, sym, ap, ◌∙◌, subst}
 use Rattle.ygg_base.specs.declared.token.Keyword.TheVariants as word
-use Rattle.ygg_base.specs.declared.token.Symbol.{Symbol}
 use Rattle.ygg_base.specs.declared.token.Symbol.TheVariants as sign
 use Rattle.ygg_base.specs.declared.token.Mark.{Mark}
 use Rattle.ygg_base.specs.declared.token.Mark.TheVariants as mark
@@ -13,46 +12,13 @@ use Rattle.ygg_syntax.specs.declared.tree.Name.{Name}
 use Rattle.ygg_syntax.specs.declared.tree.Numeral.{Numeral}
 use Rattle.ygg_syntax.specs.declared.tree.Quantifier.{Quantifier}
 use Rattle.ygg_syntax.specs.declared.tree.Quantifier.TheVariants as quantifier
-use Rattle.ygg_syntax.specs.declared.tree.Expr.{Expr, roll-Expr, map-Expr}
+use Rattle.ygg_syntax.specs.declared.tree.Expr.{Expr, map-Expr}
 use Rattle.ygg_syntax.specs.declared.tree.Expr.TheOpen.{Expr-F}
-use Rattle.ygg_syntax.specs.declared.tree.Expr.TheFolds.{fold-Expr, ind-Expr, fold-roll-Expr}
+use Rattle.ygg_syntax.specs.declared.tree.Expr.TheFolds.{ind-Expr, fold-roll-Expr}
 use Rattle.ygg_syntax.specs.Reading.{Reading, token, same_mark, starts, passes, takes, in_turn, impossible}
-use Rattle.ygg_syntax.specs.Expressions.{
-  Phrase,
-  node_phrase,
-  phrase,
-  expr,
-  whole,
-  indexed,
-  any,
-  some,
-  more,
-  symbol,
-  keyword,
-  named,
-  numbered,
-  operator_sign,
-  quantifier_word,
-}
-use Rattle.ygg_syntax.specs.Pending.{
-  Pending,
-  exactly,
-  name,
-  number,
-  operator,
-  expression,
-  indices,
-  arguments,
-  rest_of_arguments,
-  more_expressions,
-  sign_of,
-  word_of,
-  range,
-  refuses,
-  after_expression,
-  outcome,
-}
-use Rattle.ygg_read.specs.ExpressionSteps.{Goes, GoesAsAtom}
+use Rattle.ygg_syntax.specs.Expressions.{Phrase, node_phrase, phrase, expr, whole, indexed, any, some, more, symbol, named, numbered, operator_sign, quantifier_word}
+use Rattle.ygg_syntax.specs.Pending.{Pending, exactly, name, number, operator, expression, indices, arguments, rest_of_arguments, more_expressions, sign_of, word_of, refuses, after_expression, outcome}
+use Rattle.ygg_read.specs.ExpressionSteps.{GoesAsAtom}
 use Rattle.ygg_read.proofs.ExpressionPhrases.{joined}
 use Rattle.ygg_read.proofs.Marks.{same_is, Comes, passed, took}
 use Rattle.ygg_read.proofs.Stopped.{goes_token, goes_number, goes_name, dropped_indices, dropped_arguments, dropped_more, some_argument}

@@ -1,5 +1,5 @@
 -- What reading does.
-use Rattle.std.specs.Prelude.{◌≡◌, ℕ, List, [], ◌∷◌, ◌++◌, length, Option, Some, Result, Ok, IfOk, IfSome, IfNone, OnSome}
+use Rattle.std.specs.Prelude.{◌≡◌, List, [], ◌∷◌, ◌++◌, length, Option, Some, Result, Ok, IfOk, IfSome, IfNone, OnSome}
 use Rattle.ygg_base.specs.declared.token.Token.{Token}
 use Rattle.ygg_list.specs.declared.memory.NoMemory.{NoMemory}
 use Rattle.ygg_syntax.specs.Reading.{Reading, in_turn}

@@ -1,36 +1,8 @@
 -- What inputs of a shape are worth.
-use Rattle.std.proofs.Common.{
-  ◌≡◌,
-  ◌≤◌,
-  ◌<◌,
-  ◌+◌,
-  ◌*◌,
-  ℕ,
-  zero,
-  suc,
-  Result,
-  Ok,
-  Err,
-  OnOk,
-  IfOk,
-  List,
-  [],
-  ◌∷◌,
-  length,
-  map,
-  replicate,
-  All,
-  refl,
-  sym,
-  ap,
-  ◌∙◌,
-  subst,
-  arith,
-}
+use Rattle.std.proofs.Common.{◌≡◌, ◌+◌, ◌*◌, ℕ, zero, suc, Result, Ok, Err, OnOk, IfOk, List, ◌∷◌, length, map, replicate, refl, sym, ap, ◌∙◌, subst, arith}
 use Rattle.std.proofs.lemmas.List.Elements.{All-cons, All-nil}
 use Rattle.ygg_value.specs.Shapes.{IsShape}
 use Rattle.ygg_value.specs.Number.{Number}
-use Rattle.ygg_value.specs.Words.{word}
 use Rattle.ygg_value.specs.declared.row.Value.TheVariants as value
 use Rattle.ygg_value.specs.declared.shape.Shape.{Shape}
 use Rattle.ygg_value.specs.declared.shape.Shape.TheVariants as shape
@@ -52,9 +24,8 @@ use Rattle.ygg_shape_words.specs.ygg_bank.declared.node.Node.TheVariants.{Input}
 use Rattle.ygg_shape_words.proofs.Terms.{made_is}
 use Rattle.ygg_shape_cells.proofs.Wider.{row_wider}
 use Rattle.ygg_shape_cells.specs.Lists.{each_from}
-use Rattle.ygg_shape_cells.specs.Terms.{IsRow, IsTable, IsShaped, numbers_of, worth}
+use Rattle.ygg_shape_cells.specs.Terms.{IsRow, IsTable, IsShaped, numbers_of}
 use Rattle.ygg_shape_cells.specs.declared.terms.SymValue.{SymValue}
-use Rattle.ygg_shape_cells.specs.declared.terms.SymValue.TheVariants.{Word, Row, Table}
 use Rattle.ygg_shape_cells.proofs.Answered.{no_inputs, some_fit}
 use Rattle.ygg_shape_cells.proofs.Keeps.{each_from_keeps}
 use Rattle.ygg_shape_cells.proofs.Makers.{ValueIs}

@@ -44,9 +44,9 @@ use Rattle.ygg_shape_words.specs.ygg_bank_proofs_Fitting.{constant_there}
 use Rattle.ygg_shape_words.specs.ygg_bank_proofs_Made.{made_grows}
 use Rattle.ygg_shape_words.specs.ygg_bank_proofs_Meaning.{fits_fewer}
 use Rattle.ygg_shape_words.specs.ygg_bank_proofs_Widths.{wider, width_is, extends_both}
-use Rattle.ygg_shape_words.specs.ygg_bank.Makes.{Make, pure}
+use Rattle.ygg_shape_words.specs.ygg_bank.Makes.{pure}
 use Rattle.ygg_shape_words.specs.ygg_bank.Making.{known_in, made}
-use Rattle.ygg_shape_words.specs.ygg_bank.Nodes.{HasWidth, Extends}
+use Rattle.ygg_shape_words.specs.ygg_bank.Nodes.{HasWidth}
 use Rattle.ygg_shape_words.specs.ygg_bank.Values.{Inputs, Values, Fits}
 use Rattle.ygg_shape_words.specs.ygg_bank.declared.node.Id.{Id}
 use Rattle.ygg_shape_words.specs.ygg_bank.declared.node.Node.{Node}

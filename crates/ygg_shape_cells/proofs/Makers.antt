@@ -1,40 +1,7 @@
 -- What makers are worth, by one form: under words that fit the nodes after a maker, its answer has a shape and a value.
-use Rattle.std.proofs.Common.{
-  ◌≡◌,
-  ◌≤◌,
-  ◌<◌,
-  ◌^◌,
-  ◌==◌,
-  ℕ,
-  zero,
-  suc,
-  Bool,
-  true,
-  false,
-  if◌then◌else◌,
-  Option,
-  Some,
-  None,
-  List,
-  [],
-  ◌∷◌,
-  length,
-  map,
-  replicate,
-  slice_get,
-  slice_set,
-  unwrap_or,
-  All,
-  refl,
-  sym,
-  ap,
-  ◌∙◌,
-  subst,
-  arith,
-}
-use Rattle.std.proofs.lemmas.List.Elements.{All-head, All-tail, All-cons, All-nil}
-use Rattle.ygg_value.specs.Number.{Number, Grid, Digits}
-use Rattle.ygg_value.specs.Shapes.{IsShape, zero_of}
+use Rattle.std.proofs.Common.{◌≡◌, ℕ, if◌then◌else◌, List, [], ◌∷◌, length, sym, ap, ◌∙◌, arith}
+use Rattle.ygg_value.specs.Number.{Grid, Digits}
+use Rattle.ygg_value.specs.Shapes.{IsShape}
 use Rattle.ygg_value.specs.Values.{row_read, row_write, table_read, table_write}
 use Rattle.ygg_value.specs.declared.row.Value.{Value}
 use Rattle.ygg_value.specs.declared.row.Value.TheVariants as value
@@ -42,17 +9,16 @@ use Rattle.ygg_value.specs.declared.shape.Shape.{Shape}
 use Rattle.ygg_value.specs.declared.shape.Shape.TheVariants as shape
 use Rattle.ygg_shape_words.specs.ygg_rules.declared.rule.RuleKind.{RuleKind}
 use Rattle.ygg_shape_words.specs.ygg_bank_proofs_Meaning.{fits_fewer}
-use Rattle.ygg_shape_words.specs.ygg_bank_proofs_Widths.{wider}
-use Rattle.ygg_shape_words.specs.ygg_bank.Nodes.{HasWidth, Stands, Extends}
+use Rattle.ygg_shape_words.specs.ygg_bank.Nodes.{HasWidth, Stands}
 use Rattle.ygg_shape_words.specs.ygg_bank.Values.{Inputs, Values, Fits}
 use Rattle.ygg_shape_words.specs.ygg_bank.declared.node.Id.{Id}
 use Rattle.ygg_shape_words.specs.ygg_bank.declared.node.Node.{Node}
 use Rattle.ygg_shape_words.proofs.Terms.{TermIs, holds}
-use Rattle.ygg_shape_cells.proofs.Wider.{rows_wider, table_wider}
+use Rattle.ygg_shape_cells.proofs.Wider.{table_wider}
 use Rattle.ygg_shape_cells.specs.Making.{merged, selected, stored}
-use Rattle.ygg_shape_cells.specs.Terms.{IsRow, IsTable, IsShaped, numbers_of, row_of, table_of, worth}
+use Rattle.ygg_shape_cells.specs.Terms.{IsRow, IsTable, IsShaped, row_of, table_of, worth}
 use Rattle.ygg_shape_cells.specs.declared.terms.SymValue.{SymValue}
-use Rattle.ygg_shape_cells.specs.declared.terms.SymValue.TheVariants.{Word, Row, Table}
+use Rattle.ygg_shape_cells.specs.declared.terms.SymValue.TheVariants.{Row, Table}
 use Rattle.ygg_shape_cells.proofs.Answered.{selected_row, read_is, stored_rows, stored_size}
 use Rattle.ygg_shape_cells.proofs.Grows.{merged_grows, selected_grows, stored_grows, stored_where_grows}
 use Rattle.ygg_shape_cells.proofs.Guarded.{rows_where, where_size, where_is}

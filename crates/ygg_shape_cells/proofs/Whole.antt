@@ -1,40 +1,8 @@
 -- What lists of values and zeros are worth.
-use Rattle.std.proofs.Common.{
-  ◌≡◌,
-  ◌≤◌,
-  ◌<◌,
-  ◌==◌,
-  ℕ,
-  zero,
-  suc,
-  Bool,
-  true,
-  false,
-  if◌then◌else◌,
-  Result,
-  Ok,
-  Err,
-  OnOk,
-  IfOk,
-  List,
-  [],
-  ◌∷◌,
-  length,
-  map,
-  replicate,
-  get_or,
-  All,
-  refl,
-  sym,
-  ap,
-  ◌∙◌,
-  subst,
-  arith,
-}
+use Rattle.std.proofs.Common.{◌≡◌, ◌<◌, ℕ, zero, suc, if◌then◌else◌, Result, Ok, Err, OnOk, IfOk, List, [], ◌∷◌, length, map, replicate, get_or, refl, sym, ap, ◌∙◌, subst, arith}
 use Rattle.std.proofs.lemmas.List.{length-replicate}
 use Rattle.std.proofs.lemmas.List.Elements.{All-replicate}
 use Rattle.std.proofs.lemmas.Nat.{pow_pos}
-use Rattle.ygg_value.specs.Number.{Number}
 use Rattle.ygg_value.specs.Shapes.{IsShape, zero_of}
 use Rattle.ygg_value.specs.Words.{word}
 use Rattle.ygg_value.specs.declared.row.Value.{Value}
@@ -45,7 +13,6 @@ use Rattle.ygg_shape_words.specs.ygg_rules.declared.rule.RuleKind.{RuleKind}
 use Rattle.ygg_shape_words.specs.ygg_bank_proofs_Exist.{values_fit}
 use Rattle.ygg_shape_words.specs.ygg_bank_proofs_Meaning.{fits_fewer}
 use Rattle.ygg_shape_words.specs.ygg_bank_proofs_Widths.{wider, extends_self}
-use Rattle.ygg_shape_words.specs.ygg_bank.Making.{made}
 use Rattle.ygg_shape_words.specs.ygg_bank.Nodes.{HasWidth, IsBank, Extends}
 use Rattle.ygg_shape_words.specs.ygg_bank.Values.{Inputs, Values, Fits, value_of}
 use Rattle.ygg_shape_words.specs.ygg_bank.declared.node.Id.{Id}
@@ -57,7 +24,6 @@ use Rattle.ygg_shape_cells.proofs.Wider.{shaped_wider, all_shaped_wider}
 use Rattle.ygg_shape_cells.specs.Making.{merged, zeros}
 use Rattle.ygg_shape_cells.specs.Terms.{IsRow, IsTable, HasShape, IsShaped, AreShaped, AreAlike, numbers_of, worth}
 use Rattle.ygg_shape_cells.specs.declared.terms.SymValue.{SymValue}
-use Rattle.ygg_shape_cells.specs.declared.terms.SymValue.TheVariants.{Word, Row, Table}
 use Rattle.ygg_shape_cells.proofs.Answered.{no_inputs, some_fit}
 use Rattle.ygg_shape_cells.proofs.Grows.{merged_grows}
 use Rattle.ygg_shape_cells.proofs.Keeps.{each_two_keeps, merged_keeps, zeros_keeps}

@@ -3,17 +3,14 @@ use Rattle.std.proofs.Common.{◌≡◌, ◌≤◌, ℕ, Bool, true, false, if�
 use Rattle.std.proofs.lemmas.List.Elements.{All-head}
 use Rattle.ygg_value.specs.Number.{Digits, Grid}
 use Rattle.ygg_value.specs.Shapes.{IsShape}
-use Rattle.ygg_value.specs.declared.operation.Op.TheVariants.{Eq}
 use Rattle.ygg_value.specs.declared.row.Value.TheVariants as value
 use Rattle.ygg_value.specs.declared.shape.Shape.{Shape}
 use Rattle.ygg_value.specs.declared.shape.Shape.TheVariants as shape
 use Rattle.ygg_shape_words.specs.ygg_rules.declared.rule.RuleKind.{RuleKind}
-use Rattle.ygg_shape_words.specs.ygg_bank.Making.{made}
 use Rattle.ygg_shape_words.specs.ygg_bank.Nodes.{HasWidth, Extends}
 use Rattle.ygg_shape_words.specs.ygg_bank.Values.{Inputs, Values, Fits}
 use Rattle.ygg_shape_words.specs.ygg_bank.declared.node.Id.{Id}
 use Rattle.ygg_shape_words.specs.ygg_bank.declared.node.Node.{Node}
-use Rattle.ygg_shape_words.specs.ygg_bank.declared.node.Node.TheVariants.{Bin}
 use Rattle.ygg_shape_words.proofs.Picks.{picked_is}
 use Rattle.ygg_shape_words.proofs.Terms.{holds}
 use Rattle.ygg_shape_cells.proofs.Rows.{merged_row_is}

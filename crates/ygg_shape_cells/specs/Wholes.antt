@@ -1,5 +1,5 @@
 -- What lists of values and zeros make in a bank, under a book of these kinds, and what they are worth.
-use Rattle.std.specs.Prelude.{ℕ, ◌≡◌, ◌==◌, if◌then◌else◌, List, map, replicate}
+use Rattle.std.specs.Prelude.{◌≡◌, ◌==◌, if◌then◌else◌, List, map, replicate}
 use Rattle.ygg_value.specs.Shapes.{zero_of}
 use Rattle.ygg_value.specs.Words.{word}
 use Rattle.ygg_value.specs.declared.shape.Shape.{Shape}

@@ -6,7 +6,7 @@ use Rattle.std.specs.List.{insert}
 use Rattle.std.specs.Prelude.{nat_lt}
 use Rattle.std.proofs.lemmas.List.{drop_more, drop_all, drop-append-le, drop-set-lt, take_more, take_more_set, take-append-drop, take_all}
 use Rattle.ygg_shape_words.specs.ygg_rules.declared.rule.RuleKind.{RuleKind}
-use Rattle.ygg_shape_words.specs.ygg_bank.Makes.{Make, Out, pure, and_make}
+use Rattle.ygg_shape_words.specs.ygg_bank.Makes.{Make, Out, and_make}
 use Rattle.ygg_shape_words.specs.ygg_bank.declared.node.Id.{Id}
 use Rattle.ygg_shape_words.specs.ygg_bank.declared.node.Node.{Node}
 use Rattle.ygg_shape_sums.specs.Parts.{Sum, part, merged}
@@ -14,7 +14,7 @@ use Rattle.ygg_shape_sums.specs.Readings.{read}
 use Rattle.ygg_shape_sums.specs.Gathers.{parts_of, counted, with_all, gathered, found_within, split_of}
 use Rattle.ygg_shape_sums.specs.Reduces.{reduced_sum}
 use Rattle.ygg_shape_sums.specs.Sides.{share, more, all_more, vanishes}
-use Rattle.ygg_shape_sums.specs.Equates.{Found, IsFound, Step, found, split_as, vanishes_within}
+use Rattle.ygg_shape_sums.specs.Equates.{Found, IsFound, found, split_as, vanishes_within}
 use Rattle.ygg_shape_sums.specs.declared.parts.Summand.{Summand}
 use Rattle.ygg_shape_sums.specs.declared.reading.Fact.{Fact}
 

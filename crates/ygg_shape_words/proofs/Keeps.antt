@@ -5,7 +5,7 @@ use Rattle.ygg_value.specs.declared.operation.Op.TheVariants.{And, Or, Eq}
 use Rattle.ygg_rules.specs.declared.rule.RuleKind.{RuleKind}
 use Rattle.ygg_bank.proofs.Inputs.{made_keeps}
 use Rattle.ygg_bank.proofs.Made.{made_grows}
-use Rattle.ygg_bank.proofs.Widths.{extends_self, extends_both}
+use Rattle.ygg_bank.proofs.Widths.{extends_both}
 use Rattle.ygg_bank.specs.Inputs.{InputsBelow, KeepsInputs, NoInput}
 use Rattle.ygg_bank.specs.Makes.{Make}
 use Rattle.ygg_bank.specs.Making.{made}

@@ -34,7 +34,7 @@ use Rattle.std.specs.Int.Bits.{bit_xor, xor_assoc, xor_self, xor_zero_r}
 use Rattle.std.proofs.lemmas.Bool.Decides.{nat_tests, Decides-eqb}
 use Rattle.ygg_value.proofs.Results.{apply_to-IsWord, not_of-IsWord}
 use Rattle.ygg_value.specs.Number.{Number, IsWord}
-use Rattle.ygg_value.specs.Words.{word, apply_to, not_of, resized, result_width, CanApply}
+use Rattle.ygg_value.specs.Words.{word, apply_to, not_of, result_width, CanApply}
 use Rattle.ygg_value.specs.declared.operation.Op.{Op}
 use Rattle.ygg_value.specs.declared.operation.Op.TheVariants.{Add, Sub, Mul, Xor}
 use Rattle.ygg_bank.proofs.Fitting.{constant_there}
@@ -47,7 +47,7 @@ use Rattle.ygg_bank.specs.declared.node.Node.{Node}
 use Rattle.ygg_bank.specs.declared.node.Node.TheVariants.{Const, Bin, Not, Resize}
 use Rattle.ygg_shape_words.proofs.Children.{bin_alike, not_wide, resize_stands}
 use Rattle.ygg_shape_words.proofs.Tests.{same_test, add_undone, sub_undone, sub_turned, mul_undone, not_undone}
-use Rattle.ygg_shape_words.specs.Forms.{ConstantFits, against, undo_bin, undo_first, undo_second, undo_product, undo_resize, inverse_of, nearer}
+use Rattle.ygg_shape_words.specs.Forms.{ConstantFits, against, undo_bin, undo_first, undo_second, inverse_of, nearer}
 use Rattle.ygg_shape_words.specs.declared.forms.Form.{Form}
 use Rattle.ygg_shape_words.specs.declared.forms.Form.TheVariants as form
 

@@ -1,5 +1,5 @@
 -- What a word at a width makes in a bank, under a book of these kinds.
-use Rattle.std.specs.Prelude.{ℕ, ◌≡◌, ◌==◌, ◌||◌, nat_le, if◌then◌else◌, Option, Some, None, List, slice_get}
+use Rattle.std.specs.Prelude.{ℕ, ◌≡◌, ◌==◌, ◌||◌, nat_le, if◌then◌else◌, Option, Some, List, slice_get}
 use Rattle.ygg_value.specs.Words.{resized}
 use Rattle.ygg_rules.specs.declared.rule.RuleKind.{RuleKind}
 use Rattle.ygg_bank.specs.Makes.{Make, pure}

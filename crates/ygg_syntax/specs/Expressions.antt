@@ -9,14 +9,12 @@
 --        | "row" "(" expr {"," expr} ")"
 --        | ("all" | "any") "(" NAME ":" NUM "below" NUM "," expr ")"
 -- Each rule is the list of what is read in turn. A token whose place the tree keeps is read at that place.
-use Rattle.std.specs.Prelude.{◌≡◌, ℕ, Bool, true, false, if◌then◌else◌, List, [], ◌∷◌, map, Option, Some, None}
+use Rattle.std.specs.Prelude.{Bool, true, false, if◌then◌else◌, List, [], ◌∷◌}
 use Rattle.ygg_base.specs.declared.token.Keyword.{Keyword}
 use Rattle.ygg_base.specs.declared.token.Keyword.TheVariants as word
 use Rattle.ygg_base.specs.declared.token.Symbol.{Symbol}
 use Rattle.ygg_base.specs.declared.token.Symbol.TheVariants as sign
-use Rattle.ygg_base.specs.declared.token.Mark.{Mark}
 use Rattle.ygg_base.specs.declared.token.Mark.TheVariants as mark
-use Rattle.ygg_base.specs.declared.token.Token.{Token}
 use Rattle.ygg_value.specs.declared.operation.Op.{Op}
 use Rattle.ygg_value.specs.declared.operation.Op.TheVariants as op
 use Rattle.ygg_syntax.specs.declared.tree.Name.{Name}

@@ -15,7 +15,7 @@
 --              ( "spec" spec ["on" "crash" spec] "impl" impl
 --              | "->" small "spec" specR ["on" "crash" spec] "impl" implR )
 --   arg    = NAME ":" small
-use Rattle.std.specs.Prelude.{◌≡◌, ℕ, ◌<◌, ◌^◌, Bool, ◌&&◌, if◌then◌else◌, List, [], ◌∷◌, length, map, Option, Some, None}
+use Rattle.std.specs.Prelude.{◌≡◌, ◌<◌, ◌^◌, ◌&&◌, if◌then◌else◌, List, [], ◌∷◌, length, map, Option, Some, None}
 use Rattle.ygg_base.specs.declared.token.Keyword.{Keyword}
 use Rattle.ygg_base.specs.declared.token.Keyword.TheVariants as word
 use Rattle.ygg_base.specs.declared.token.Symbol.TheVariants as sign

@@ -1,6 +1,6 @@
 -- What is read from the front of tokens. The grammar is stated by what each tree reads rather than by the tokens of a tree,
 -- since a tree doesn't determine its tokens: those whose place it doesn't keep may stand anywhere.
-use Rattle.std.specs.Prelude.{◌≡◌, ℕ, Bool, true, false, ◌==◌, ◌&&◌, if◌then◌else◌, List, [], ◌∷◌, Option, Some, None}
+use Rattle.std.specs.Prelude.{Bool, false, ◌==◌, ◌&&◌, if◌then◌else◌, List, [], ◌∷◌, Option, Some, None}
 use Rattle.std.specs.Str.{bytes_eq}
 use Rattle.ygg_base.specs.Spelling.{keyword_bytes, symbol_bytes}
 use Rattle.ygg_base.specs.declared.token.Mark.{Mark}

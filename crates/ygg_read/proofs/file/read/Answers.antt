@@ -1,4 +1,4 @@
-use Rattle.std.proofs.Common.{◌≡◌, [], ◌∷◌, length, refl, sym, ap, ◌∙◌}
+use Rattle.std.proofs.Common.{◌≡◌, [], ◌∷◌, length, sym, ap, ◌∙◌}
 use Rattle.ygg_base.specs.declared.reason.Reason.TheVariants.{Syntax}
 use Rattle.ygg_base.specs.Reason.{refusal_at}
 use Rattle.ygg_syntax.specs.declared.tree.Place.{Place}

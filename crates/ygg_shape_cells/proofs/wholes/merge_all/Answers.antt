@@ -3,7 +3,7 @@ use Rattle.ygg_shape_words.specs.ygg_bank_proofs_Exist.{keeps_values}
 use Rattle.ygg_shape_words.specs.ygg_bank.Inputs.{InputsBelow}
 use Rattle.ygg_shape_words.proofs.Keeps.{inputs_stay, kept}
 use Rattle.ygg_shape_cells.proofs.Whole.{merged_all_shaped, merged_all_keeps, merged_all_value}
-use Rattle.ygg_shape_cells.specs.Wholes.{AreMerged, merged_all}
+use Rattle.ygg_shape_cells.specs.Wholes.{merged_all}
 use Rattle.ygg_shape_cells.proofs.wholes.merge_all.Goals as goal
 
 pub returns-clause-keeps : goal.returns-clause-keeps

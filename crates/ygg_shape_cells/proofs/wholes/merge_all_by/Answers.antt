@@ -1,4 +1,4 @@
-use Rattle.std.proofs.Common.{[], ◌∷◌, ◌++◌, ◌+◌, ◌<◌, length, sym, subst, arith}
+use Rattle.std.proofs.Common.{◌+◌, ◌<◌, length, sym, subst, arith}
 use Rattle.ygg_shape_words.specs.ygg_bank_proofs_Widths.{wider, extends_both}
 use Rattle.ygg_shape_cells.specs.Making.{merged}
 use Rattle.ygg_shape_cells.proofs.Steps.{EachTwo, each_two_goes}

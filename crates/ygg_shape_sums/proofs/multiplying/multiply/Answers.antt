@@ -1,4 +1,4 @@
-use Rattle.std.proofs.Common.{rules, ◌≡◌, ◌<◌, length, get_or, sym, subst}
+use Rattle.std.proofs.Common.{◌≡◌, get_or, sym, subst}
 use Rattle.ygg_shape_sums.proofs.Factors.{all_stand, product_at}
 use Rattle.ygg_shape_sums.specs.Products.{Product}
 use Rattle.ygg_shape_sums.proofs.multiplying.multiply.Goals as goal

@@ -1,6 +1,6 @@
-use Rattle.std.proofs.Common.{Some, sym, ap, ◌∙◌, refl}
+use Rattle.std.proofs.Common.{sym}
 use Rattle.ygg_bank.proofs.Widths.{stands}
-use Rattle.ygg_shape_words.proofs.Children.{bin_stands, not_stands, resize_stands}
+use Rattle.ygg_shape_words.proofs.Children.{bin_stands, resize_stands}
 use Rattle.ygg_shape_words.proofs.Undone.{constant_fits}
 use Rattle.ygg_shape_words.proofs.forms.against.Goals as goal
 

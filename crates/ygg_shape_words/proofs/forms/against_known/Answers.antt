@@ -1,4 +1,4 @@
-use Rattle.std.proofs.Common.{Some, sym, ap, ◌∙◌}
+use Rattle.std.proofs.Common.{sym, ◌∙◌}
 use Rattle.ygg_bank.proofs.Fitting.{constant_there}
 use Rattle.ygg_shape_words.proofs.Fit.{constant_wide}
 use Rattle.ygg_shape_words.proofs.forms.against_known.Goals as goal

@@ -1,4 +1,4 @@
-use Rattle.std.proofs.Common.{◌≡◌, ◌+◌, drop, sym, ap, ◌∙◌}
+use Rattle.std.proofs.Common.{◌+◌, drop, sym, ap, ◌∙◌}
 use Rattle.std.proofs.lemmas.List.{at_drop_more}
 use Rattle.ygg_type.specs.ygg_syntax.Weights.{weights_of}
 use Rattle.ygg_type.specs.ygg_type_rules.TypeErrors.{first_after}

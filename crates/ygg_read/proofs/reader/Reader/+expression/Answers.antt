@@ -4,7 +4,7 @@ use Rattle.ygg_base.specs.declared.token.Mark.TheVariants as mark
 use Rattle.ygg_base.specs.declared.token.Symbol.TheVariants as sign
 use Rattle.ygg_syntax.specs.Expressions.{Phrase, phrase, expr, keyword, named, numbered, any, some, symbol}
 use Rattle.ygg_syntax.specs.Reading.{in_turn}
-use Rattle.ygg_syntax.specs.Pending.{exactly, name, number, operator, expression, more_expressions, rest_of_arguments, arguments, indices, sign_of, outcome}
+use Rattle.ygg_syntax.specs.Pending.{exactly, name, number, expression, more_expressions, rest_of_arguments, arguments, indices, sign_of, outcome}
 use Rattle.ygg_read.proofs.ExpressionBegins.{begins_index, begins_not, begins_no_arguments, begins_more, begins_name, begins_arguments}
 use Rattle.ygg_read.proofs.ExpressionBegins.{begins_binary, begins_pick, begins_resize, begins_fill, begins_row, begins_quantified}
 use Rattle.ygg_read.proofs.ExpressionLists.{index_more, first_read, one_more, all_read, all_filled}

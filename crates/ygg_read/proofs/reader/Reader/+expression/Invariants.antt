@@ -1,4 +1,4 @@
-use Rattle.std.proofs.Common.{ℕ, ◌+◌, ◌*◌, length}
+use Rattle.std.proofs.Common.{◌+◌, ◌*◌, length}
 use Rattle.ygg_read.proofs.ExpressionLists.{AtomRead, SomeRead}
 use Rattle.ygg_read.proofs.reader.Reader.+expression.Given as goal
 
