@@ -318,12 +318,4 @@ pub equal_gates : (first : Lit) (xs ys : List Lit) (old : List Gate) (i : ℕ) (
     now ≡ (equal_bits first xs ys old).gates
 equal_gates first xs ys old i so_far now l s = ap (λ (z : Out Lit). z.gates) (equal_end first xs ys old i so_far now l s)
 
-pub ruleset shifted_rules = (shifted_begins, shifted_goes, shifted_value, shifted_gates)
-
-pub ruleset equal_rules = (equal_begins, equal_goes, equal_value, equal_gates)
-
-pub ruleset added_rules = (added_begins, added_goes, added_value, added_carry, added_gates)
-
 pub ruleset multiplied_rules = (multiplied_begins, multiplied_goes, multiplied_value, multiplied_gates)
-
-pub ruleset joined_rules = (joined_begins, joined_goes, joined_value, joined_gates)

@@ -13,7 +13,6 @@ use ygg_list::NoMemory;
 use ygg_value::Op;
 
 /// AND, begun with a literal, of the complements of the XOR of each pair of bits.
-#[tactic(auto, using(crate::proofs::Steps::equal_rules))]
 pub fn equal(gates: &mut Vec<Gate>, first: Lit, xs: &[Lit], ys: &[Lit]) -> Result<Lit, NoMemory>
     ensures gates { OnOk result (gates.new.items ≡ (equal_bits first xs.now ys.now gates.old.items).gates) }
     ensures value { IfOk result (λ o. o ≡ (equal_bits first xs.now ys.now gates.old.items).value) }
@@ -39,7 +38,6 @@ pub fn equal(gates: &mut Vec<Gate>, first: Lit, xs: &[Lit], ys: &[Lit]) -> Resul
 }
 
 /// OR, begun with a literal, of the bits.
-#[tactic(auto, using(crate::proofs::Steps::any_begins, crate::proofs::Steps::any_goes, crate::proofs::Steps::any_value, crate::proofs::Steps::any_gates))]
 pub fn any(gates: &mut Vec<Gate>, first: Lit, bits: &[Lit]) -> Result<Lit, NoMemory>
     ensures gates { OnOk result (gates.new.items ≡ (any_bit first bits.now gates.old.items).gates) }
     ensures value { IfOk result (λ o. o ≡ (any_bit first bits.now gates.old.items).value) }

@@ -59,7 +59,6 @@ pub fn join(gates: &mut Vec<Gate>, joint: Joint, a: Lit, b: Lit) -> Result<Lit, 
 }
 
 /// The gate for each pair of bits, at the end of the list. Its only error is out of memory, after which there may be more gates.
-#[tactic(auto, using(crate::proofs::Steps::joined_rules))]
 pub fn join_each(
     alloc: Global,
     gates: &mut Vec<Gate>,

@@ -52,7 +52,6 @@ fn shift_bit(
 }
 
 /// The value shifted by these bits of an amount, the lowest of all first.
-#[tactic(auto, using(crate::proofs::Steps::shifted_rules))]
 fn shift_near(
     alloc: Global,
     gates: &mut Vec<Gate>,

@@ -31,7 +31,6 @@ fn add_bit(gates: &mut Vec<Gate>, a: Lit, b: Lit, carry: Lit) -> Result<Carried,
 }
 
 /// A sum with this carry.
-#[tactic(auto, using(crate::proofs::Steps::added_rules))]
 pub fn add(
     alloc: Global,
     gates: &mut Vec<Gate>,

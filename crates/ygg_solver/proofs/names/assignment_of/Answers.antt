@@ -1,7 +1,11 @@
-use Rattle.std.proofs.Common.{◌≡◌, ◌∙◌, sym, inl, inr, arith, get_or}
+use Rattle.std.proofs.Common.{◌≡◌, ◌∙◌, sym, subst, inl, inr, arith, refl, get_or, ℕ, zero, suc, false, List, []}
+use Rattle.std.proofs.lemmas.List.{take_all}
+use Rattle.std.proofs.lemmas.Result.{IfOk-from_err}
 use Rattle.std.proofs.lemmas.Option.{get_or_from_slice_get, slice_get-get_or}
+use Rattle.ygg_cnf.specs.Literals.{truth_of}
 use Rattle.ygg_watch.specs.declared.entry.Entry.{Entry}
 use Rattle.ygg_watch.specs.Trail.{IsAt}
+use Rattle.ygg_solver.specs.Names.{GivesValues}
 use Rattle.ygg_solver.proofs.NameLemmas.{not_false, not_true, values_kept, values_set}
 use Rattle.ygg_solver.proofs.names.assignment_of.Goals as goal
 use Rattle.ygg_solver.proofs.names.assignment_of.Goals.{
@@ -10,6 +14,23 @@ use Rattle.ygg_solver.proofs.names.assignment_of.Goals.{
   else-variable-gt0-via-then-variable-gt0+else-not-entry,
   else-variable-gt0-via-else-variable-gt0,
 }
+
+-- no values are all false
+none_true : (v : ℕ) → truth_of [] v ≡ false
+none_true zero = refl
+none_true (suc v) = refl
+
+pub loop-entry-init : goal.loop-entry-init
+loop-entry-init c place = rw c.new-values.ensures.items (λ l positive. none_true _)
+
+pub variable-variable-requires : goal.variable-variable-requires
+variable-variable-requires c =
+    let i = c.loop-entry.entry-index in
+    c.requires.trail.within i c.entry-entry.result
+    (rw (c.entry-entry.ensures ∙ c.entry-item.is) (slice_get-get_or c.args.trail.now i c.entry-item.result c.loop-entry-test.true))
+
+pub returns-in_err-set_true : goal.returns-in_err-set_true
+returns-in_err-set_true c = IfOk-from_err c.from_residual.result (GivesValues c.args.variables.now c.args.trail.now) c.from_residual.ensures.0
 
 pub loop-entry-preserved : goal.loop-entry-preserved
 loop-entry-preserved c =
@@ -34,3 +55,9 @@ loop-entry-preserved c =
             (inr (let none = v.if-variable-gt0.false in omega (arith, name, none)))
       ])
     ]
+
+pub returns : goal.returns
+returns c =
+    rw c.from_vec.ensures
+    (subst (λ (t : List Entry). GivesValues c.args.variables.now t c.loop-entry.values.items)
+    (take_all c.loop-entry.entry-index c.args.trail.now c.loop-entry-test.false) c.loop-entry.invariant)
