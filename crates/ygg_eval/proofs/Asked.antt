@@ -22,6 +22,7 @@ use Rattle.std.proofs.Common.{
   ◌++◌,
   length,
   Some,
+  None,
   slice_get,
   get_or,
   refl,
@@ -32,6 +33,7 @@ use Rattle.std.proofs.Common.{
   append_assoc,
 }
 use Rattle.std.proofs.lemmas.List.{append-nil}
+use Rattle.std.proofs.lemmas.Option.{slice_get-get_or, slice_get_within}
 use Rattle.ygg_syntax.specs.declared.tree.Declared.{Declared}
 use Rattle.ygg_syntax.specs.declared.tree.Def.{Def}
 use Rattle.ygg_syntax.specs.declared.tree.Expr.{Expr}
@@ -314,3 +316,25 @@ pub low_later : (below : List Declared) (ls : List Layer) (place : ℕ) (l : Lay
     → variables_from below ls place ≡ l.state
 low_later below ls zero l h n e = absurd (n refl)
 low_later below ls (suc p) l h n e = let one : suc p - 1 ≡ p = omega arith in low_next below ls p l (omega arith) (e ∙ ap (λ k. get_or ls k l) one)
+
+-- the place of a formula that is asked is within the file's layers
+pub asked_within : (file : File) (f : Formula) (state memory low : List Value) (layers : List Layer) → IsAsked file f state memory low →
+    layers ≡ file.layers → f.layer < length layers
+asked_within file f state memory low layers asked same =
+    subst (λ ls. f.layer < length ls) (sym same) (slice_get_within file.layers f.layer asked.layer asked.is)
+
+-- so the item there is the formula's layer
+pub asked_layer : (file : File) (f : Formula) (state memory low : List Value) (layers : List Layer) (l : Layer) → IsAsked file f state memory low →
+    layers ≡ file.layers → l ≡ get_or layers f.layer l → slice_get file.layers f.layer ≡ Some l
+asked_layer file f state memory low layers l asked same is =
+    ap (λ ls. slice_get ls f.layer) (sym same)
+    ∙ slice_get-get_or layers f.layer l (asked_within file f state memory low layers asked same)
+    ∙ ap (λ x. Some x) (sym is)
+
+-- and it has the expression that is meant
+pub asked_expression : (file : File) (f : Formula) (state memory low : List Value) (l : Layer) → IsAsked file f state memory low →
+    slice_get file.layers f.layer ≡ Some l → None ≡ formula_in l f → ⊥
+asked_expression file f state memory low l asked is none =
+    let layers : asked.layer ≡ l = let a = asked.is in cc in
+    let there : Some asked.expression ≡ None = sym asked.of_layer ∙ ap (λ x. formula_in x f) layers ∙ sym none in
+    cc

@@ -41,6 +41,7 @@ use Rattle.ygg_eval.specs.ygg_meaning.Stack.{tables_of}
 use Rattle.ygg_eval.specs.Layers.{variables_from, variables_at}
 use Rattle.ygg_eval.specs.Bodies.{block_in, variables_in, arguments_in, IsRunnable}
 use Rattle.ygg_eval.specs.Running.{runs_in}
+use Rattle.ygg_eval.proofs.Asked.{low_first}
 
 module _ (file : File) (body : Body) (args variables : List Value) where
   layer_is : (a b : Layer) → Some a ≡ Some b → a ≡ b
@@ -117,6 +118,13 @@ module _ (file : File) (values : List Value) where
         λ t. (omega arith, ap (λ vs. values_fit vs values) same ∙ sym h ∙ t),
         λ r. h ∙ ap (λ vs. values_fit vs values) (sym same) ∙ r.1,
       )
+
+  -- that of the tables tells whether they are those of the machine with number 0
+  pub in_tables : (b : Bool) (number : ℕ) → number ≡ 0 → b ≡ values_fit (tables_of file.disk) values
+      → IsTrue b ↔ ((number ≤ length file.layers) × IsTrue (values_fit (variables_at file number) values))
+  in_tables b number first h =
+      let same = ap (λ ds. values_fit ds values) (low_first (tables_of file.disk) file.layers number first) in
+      (λ t. (omega (arith, first), same ∙ sym h ∙ t), λ r. h ∙ sym same ∙ r.1)
 
   -- past the layers there is none
   pub in_no_state : (number : ℕ) → (number ≡ 0 → ⊥) → slice_get file.layers (number - 1) ≡ None → IsTrue false

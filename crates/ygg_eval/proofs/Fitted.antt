@@ -1,8 +1,31 @@
 -- A value fits a shape exactly where the shape is its own.
-use Rattle.std.proofs.Common.{◌≡◌, suc, Bool, true, false, ◌&&◌, List, [], ◌∷◌, length, refl, sym, ap, ◌∙◌, subst}
+use Rattle.std.proofs.Common.{
+  ◌≡◌,
+  ℕ,
+  suc,
+  ◌+◌,
+  ◌<◌,
+  ◌≤◌,
+  Bool,
+  true,
+  false,
+  ◌&&◌,
+  List,
+  [],
+  ◌∷◌,
+  length,
+  get_or,
+  drop,
+  refl,
+  sym,
+  ap,
+  ◌∙◌,
+  subst,
+}
 use Rattle.std.specs.Prelude.{◌==◌, nat_lt, ◌^◌}
 use Rattle.std.specs.List.{list_all}
 use Rattle.std.proofs.lemmas.Bool.{eqb-true}
+use Rattle.std.proofs.lemmas.List.{at_drop_more, at_drop_all}
 use Rattle.ygg_value.specs.Shapes.{IsValue, shape_of}
 use Rattle.ygg_value.specs.declared.row.Value.{Value}
 use Rattle.ygg_value.specs.declared.row.Value.TheVariants as value
@@ -58,3 +81,33 @@ uncounted ds vs differ = cases (values_fit ds vs) refl
     cases : (b : Bool) → values_fit ds vs ≡ b → false ≡ b
     cases false h = refl
     cases true h = absurd (differ (counted ds vs h))
+
+module _ (ds : List Declared) (vs : List Value) (i : ℕ) (whole : Bool) (so_far : values_fit (drop i ds) (drop i vs) ≡ whole) where
+  -- what is left begins with this name and its value
+  begins : (d : Declared) (v : Value) → i < length ds → d ≡ get_or ds i d → i < length vs → v ≡ get_or vs i v →
+      (fits (shape_in d.shape) v && values_fit (drop (i + 1) ds) (drop (i + 1) vs)) ≡ whole
+  begins d v few d_is many v_is =
+      let left = drop (i + 1) ds in
+      let others = drop (i + 1) vs in
+      ap (λ (x : Declared). fits (shape_in x.shape) v && values_fit left others) d_is
+      ∙ ap (λ y. fits (shape_in (get_or ds i d).shape) y && values_fit left others) v_is
+      ∙ sym (at_drop_more (λ ys. values_fit (get_or ds i d ∷ left) ys) vs i v many)
+      ∙ sym (at_drop_more (λ xs. values_fit xs (drop i vs)) ds i d few)
+      ∙ so_far
+
+  -- where it fits, what is left then decides
+  pub fits_on : (d : Declared) (v : Value) → i < length ds → d ≡ get_or ds i d → i < length vs → v ≡ get_or vs i v →
+      true ≡ fits (shape_in d.shape) v → values_fit (drop (i + 1) ds) (drop (i + 1) vs) ≡ whole
+  fits_on d v few d_is many v_is good =
+      ap (λ b. b && values_fit (drop (i + 1) ds) (drop (i + 1) vs)) good ∙ begins d v few d_is many v_is
+
+  -- where it doesn't, the values don't
+  pub fits_not : (d : Declared) (v : Value) → i < length ds → d ≡ get_or ds i d → i < length vs → v ≡ get_or vs i v →
+      false ≡ fits (shape_in d.shape) v → false ≡ whole
+  fits_not d v few d_is many v_is bad =
+      ap (λ b. b && values_fit (drop (i + 1) ds) (drop (i + 1) vs)) bad ∙ begins d v few d_is many v_is
+
+  -- past the last ones they fit
+  pub fits_all : length ds ≤ i → length vs ≤ i → true ≡ whole
+  fits_all few many =
+      sym (at_drop_all (values_fit []) vs i many) ∙ sym (at_drop_all (λ xs. values_fit xs (drop i vs)) ds i few) ∙ so_far

@@ -140,9 +140,17 @@ layer_signatures file place = cases (slice_get file.layers place)
     cases None = refl
     cases (Some l) = refl
 
-number_is : (number : ℕ) → (number ≡ 0 → ⊥) → suc (number - 1) ≡ number
+pub number_is : (number : ℕ) → (number ≡ 0 → ⊥) → suc (number - 1) ≡ number
 number_is zero n = absurd (n refl)
 number_is (suc n) h = omega arith
+
+-- the place of an operation of the disk, whose number is 0
+pub place_first : (file : File) (number : ℕ) (name : Name) (found : ℕ) → number ≡ 0 → found ≡ place_on_disk name →
+    has name (signatures_at file number) ≡ true → IsPlace (signatures_at file number) name found
+place_first file number name found first is h =
+    subst (λ k. IsPlace (signatures_at file number) name k) (sym is)
+    (subst (λ n. IsPlace (signatures_at file n) name (place_on_disk name)) (sym first)
+    (disk_place file.disk name (subst (λ n. has name (signatures_at file n) ≡ true) first h)))
 
 pub place_there : (file : File) (number : ℕ) (name : Name) (found : ℕ) → (number ≡ 0 → ⊥) →
     operation_place 0 (operations_at file.layers (number - 1)) name ≡ Some found → IsPlace (signatures_at file number) name found

@@ -22,10 +22,18 @@ use Rattle.ygg_eval.specs.declared.flow.Flow.{Flow}
 use Rattle.ygg_eval.specs.declared.flow.Flow.TheVariants.{Goes as Going, Breaks as Breaking}
 use Rattle.ygg_eval.specs.BlockSteps.{stands, goes_on, value_result, without_answer, Front, Becomes, Ran, CallRan}
 use Rattle.ygg_eval.specs.Ready.{eval_in, GivesIn}
-use Rattle.ygg_eval.proofs.Leading.{becomes_replied, ran_call}
+use Rattle.ygg_eval.proofs.Leading.{becomes_same, becomes_replied, ran_call}
 use Rattle.ygg_eval.proofs.Fitting.{given_call}
 
 module _ {S : Type 0} (M : Meaning S) (file : File) (number : ℕ) (stop : Option Stop) where
+  -- a value asks nothing
+  pub ran_value : (s : Source) (e : Expr) (env : Env) (at : Standing S) (left : ℕ) (v : Value) → s ≡ source.Value e → v ≡ eval_in file e env →
+      (next : Value → Front) → Becomes M file number stop (λ answers. from_source (eval_in file) s env answers next) (next v) at left at left
+  ran_value s e env at left v is value next =
+      subst (λ (t : Source). Becomes M file number stop (λ answers. from_source (eval_in file) t env answers next) (next v) at left at left) (sym is)
+      (subst (λ (u : Value). Becomes M file number stop (next (eval_in file e env)) (next u) at left at left) (sym value)
+      (becomes_same M file number stop (next (eval_in file e env)) at left))
+
   -- a choice takes the next pick
   pub ran_choice : (s : Source) (place : Place) (env : Env) (machine : S) (power power' : Power) (left : ℕ) (v : Value) → s ≡ source.Choose place →
       v ≡ digit (pick_of power.picks)

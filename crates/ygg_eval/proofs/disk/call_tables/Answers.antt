@@ -1,10 +1,11 @@
-use Rattle.std.proofs.Common.{None, sym, subst, arith}
+use Rattle.std.proofs.Common.{None, ◌<◌, length, sym, subst, arith}
 use Rattle.ygg_value.specs.Values.{word_in, row_in}
 use Rattle.ygg_syntax.specs.declared.tree.File.{File}
 use Rattle.ygg_eval.specs.ygg_disk.Disk as disk
 use Rattle.ygg_eval.specs.Tables.{AreTables, AreWritable, Made}
 use Rattle.ygg_eval.specs.ygg_disk.declared.power.Power.{Power}
-use Rattle.ygg_eval.proofs.OnDisk.{are_tables, read_ready, read_called, write_ready, write_called, flush_called}
+use Rattle.ygg_eval.proofs.OnDisk.{are_tables, asks_read, asks_write, read_ready, read_called, write_ready, write_called, flush_called}
+use Rattle.ygg_eval.proofs.Outages.{called_without, after_without}
 use Rattle.ygg_eval.proofs.disk.call_tables.Goals as goal
 
 pub read-requires : goal.read-requires
@@ -66,3 +67,35 @@ returns-in_ok-settle-in_default-clause-fits c =
     c.args.power.now (λ z. absurd (omega arith)) (λ z. absurd (omega arith))
     (subst (λ (f : File). (p : Power) → Made f.disk.kind disk.Flush None c.args.tables.now c.settle.new.tables p p) c.file.ensures.same
     c.in_ok-settle-in_default.ensures)).fit
+
+pub at-requires : goal.at-requires
+at-requires c =
+    subst (λ vs. 0 < length vs) (sym (asks_read c.args.typed.now.file.disk c.args.op c.args.args.now c.in-0.is c.requires.operation).are) (omega arith)
+
+pub at-requires-in-1 : goal.at-requires-in-1
+at-requires-in-1 c =
+    subst (λ vs. 0 < length vs) (sym (asks_write c.args.typed.now.file.disk c.args.op c.args.args.now c.in-1.is c.requires.operation).are) (omega arith)
+
+pub at-requires-in-1-2 : goal.at-requires-in-1-2
+at-requires-in-1-2 c =
+    subst (λ vs. 1 < length vs) (sym (asks_write c.args.typed.now.file.disk c.args.op c.args.args.now c.in-1.is c.requires.operation).are) (omega arith)
+
+pub returns-in_err-row-in-0-clause-called : goal.returns-in_err-row-in-0-clause-called
+returns-in_err-row-in-0-clause-called c =
+    called_without c.args.typed.now.file 0 c.args.tables.now c.args.tables.now c.args.power.now c.args.power.now c.args.op c.args.args.now
+    c.from_residual.result c.requires.operation c.from_residual.ensures.0
+
+pub returns-in_err-row-in-0-clause-fits : goal.returns-in_err-row-in-0-clause-fits
+returns-in_err-row-in-0-clause-fits c = after_without _ c.from_residual.result c.from_residual.ensures.0
+
+pub returns-in_err-settle-in_default-clause-called : goal.returns-in_err-settle-in_default-clause-called
+returns-in_err-settle-in_default-clause-called c =
+    called_without c.args.typed.now.file 0 c.args.tables.now c.settle.new.tables c.args.power.now c.args.power.now c.args.op c.args.args.now
+    c.from_residual-in_err-settle-in_default.result c.requires.operation c.from_residual-in_err-settle-in_default.ensures.0
+
+pub returns-in_err-settle-in_default-clause-fits : goal.returns-in_err-settle-in_default-clause-fits
+returns-in_err-settle-in_default-clause-fits c =
+    after_without _ c.from_residual-in_err-settle-in_default.result c.from_residual-in_err-settle-in_default.ensures.0
+
+pub returns-in_ok-row-in-0-clause-fits : goal.returns-in_ok-row-in-0-clause-fits
+returns-in_ok-row-in-0-clause-fits c = c.requires.fits

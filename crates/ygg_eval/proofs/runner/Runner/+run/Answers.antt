@@ -1,16 +1,20 @@
 use Rattle.std.proofs.Common.{rules, ◌-◌, ◌+◌, List, Ok, Err, drop, map, take, length, sym, ap, ◌∙◌, subst, arith}
+use Rattle.std.proofs.lemmas.List.{drop_all}
 use Rattle.ygg_syntax.specs.declared.tree.Expr.{Expr}
+use Rattle.ygg_syntax.specs.declared.tree.Index.{Index}
+use Rattle.ygg_syntax.specs.declared.tree.Stmt.{Stmt}
 use Rattle.ygg_eval_expr.specs.ygg_meaning.Environments.{Env}
 use Rattle.ygg_eval_expr.specs.ygg_meaning.Progress.{for_each, in_turn, run_of}
 use Rattle.ygg_eval_expr.specs.ygg_meaning.Meaning.{is_one}
 use Rattle.ygg_eval_expr.specs.declared.held.Binding.{Binding}
 use Rattle.ygg_eval_expr.specs.Held.{env_of}
+use Rattle.ygg_eval_expr.specs.Known.{CanEvaluate}
 use Rattle.ygg_eval.specs.declared.flow.Flow.{Flow}
 use Rattle.ygg_eval.specs.declared.flow.Flow.TheVariants.{Goes as Going, Breaks as Breaking}
 use Rattle.ygg_eval.specs.BlockSteps.{Front, goes_on, stands, Becomes, Ran}
-use Rattle.ygg_eval.specs.Ready.{eval_in, inside_run, turn_run, CanCall}
-use Rattle.ygg_eval.proofs.Leading.{starved_here, starved_as, starved_then}
-use Rattle.ygg_eval.proofs.Fitting.{call_can}
+use Rattle.ygg_eval.specs.Ready.{eval_in, known_in, inside_run, turn_run, CanCall, CanAssign}
+use Rattle.ygg_eval.proofs.Leading.{becomes_same, starved_here, starved_as, starved_then}
+use Rattle.ygg_eval.proofs.Fitting.{let_asks, assign_can, call_can, if_can}
 use Rattle.ygg_eval.proofs.Repeating.{repeat_parts, repeat_enters_at, repeat_again_at, turn_next, turns_begin, turns_end}
 use Rattle.ygg_eval.proofs.Running.{
   dropped_is,
@@ -92,6 +96,29 @@ statement-called-requires g t c =
     subst (λ (es : List Expr). CanCall g.W.Lower.means r.typed.now.file r.number r.stop c.in-Call.f es env at) (sym c.as_slice-in-Call.ensures)
     (call_can g.W.Lower.means r.typed.now.file r.number r.stop c.args.s.now c.in-Call.f c.in-Call.es env at c.in-Call.is c.requires)
 
+pub statement-bound-requires : goal.statement-bound-requires
+statement-bound-requires g t c =
+    let r = c.args.self.now in
+    let_asks g.W.Lower.means r.typed.now.file r.number r.stop c.args.s.now c.in-Let.x c.in-Let.from (env_of c.args.frame.now.names.items)
+    (stands c.args.lower.now c.args.power.now) c.in-Let.is c.requires
+
+pub statement-assigned-requires : goal.statement-assigned-requires
+statement-assigned-requires g t c =
+    let r = c.args.self.now in
+    let at = stands c.args.lower.now c.args.power.now in
+    let env = env_of c.args.frame.now.names.items in
+    subst (λ (is : List Index). CanAssign g.W.Lower.means r.typed.now.file r.number r.stop c.in-Assign.x is c.in-Assign.from env at)
+    (sym c.as_slice.ensures)
+    (assign_can g.W.Lower.means r.typed.now.file r.number r.stop c.args.s.now c.in-Assign.x c.in-Assign.indices c.in-Assign.from env at c.in-Assign.is
+    c.requires)
+
+pub statement-test-requires : goal.statement-test-requires
+statement-test-requires g t c =
+    let r = c.args.self.now in
+    subst (λ (bs : List Binding). CanEvaluate (known_in r.typed.now.file (env_of bs)) c.in-If.test) (sym c.as_slice-in-If.ensures.value)
+    (if_can g.W.Lower.means r.typed.now.file r.number r.stop c.args.s.now c.in-If.test c.in-If.first c.in-If.second
+    (env_of c.args.frame.now.names.items) (stands c.args.lower.now c.args.power.now) c.in-If.is c.requires).tested
+
 -- statements
 
 pub statements-returns-in_err-statement : goal.statements-returns-in_err-statement
@@ -150,6 +177,26 @@ statements-loop-s-preserved g t c =
           (env_of c.statement.new.frame.names.items) at to c.loop-s.frame.left c.statement.new.frame.left c.loop-s-test.true c.s-item.is
           c.loop-s.invariant.can ran;
     }
+
+pub statements-loop-s-init : goal.statements-loop-s-init
+statements-loop-s-init g t c =
+    let r = c.args.self.now in
+    record {
+      becomes = becomes_same g.W.Lower.means r.typed.now.file r.number r.stop
+          (in_turn (map (run_of (eval_in r.typed.now.file)) c.args.all.now) (env_of c.args.frame.now.names.items))
+          (stands c.args.lower.now c.args.power.now) c.args.frame.now.left;
+      can = c.requires;
+    }
+
+pub statements-returns : goal.statements-returns
+statements-returns g t c =
+    let r = c.args.self.now in
+    let all = c.args.all.now in
+    let run = run_of (eval_in r.typed.now.file) in
+    subst (λ (ss : List Stmt). Becomes g.W.Lower.means r.typed.now.file r.number r.stop (in_turn (map run all) (env_of c.args.frame.now.names.items))
+    (in_turn (map run ss) (env_of c.loop-s.frame.names.items)) (stands c.args.lower.now c.args.power.now) c.args.frame.now.left
+    (stands c.loop-s.lower c.loop-s.power) c.loop-s.frame.left)
+    (drop_all c.loop-s.s-index all c.loop-s-test.false) c.loop-s.invariant.becomes
 
 -- loops
 

@@ -1,5 +1,6 @@
-use Rattle.std.proofs.Common.{Result, ap, sym, ◌∙◌, subst}
+use Rattle.std.proofs.Common.{List, Result, ap, sym, ◌∙◌, subst}
 use Rattle.ygg_list.specs.declared.memory.NoMemory.{NoMemory}
+use Rattle.ygg_syntax.specs.declared.tree.Expr.{Expr}
 use Rattle.ygg_value.specs.declared.row.Value.{Value}
 use Rattle.ygg_value.specs.Values.{digit}
 use Rattle.ygg_eval_expr.specs.ygg_disk.declared.power.Power.{Power}
@@ -8,10 +9,10 @@ use Rattle.ygg_eval_expr.specs.ygg_meaning.Progress.{from_source}
 use Rattle.ygg_eval_expr.specs.Held.{env_of}
 use Rattle.ygg_eval.specs.declared.flow.Flow.{Flow}
 use Rattle.ygg_eval.specs.BlockSteps.{stands, Front, Ran}
-use Rattle.ygg_eval.specs.Ready.{eval_in, GivesIn}
+use Rattle.ygg_eval.specs.Ready.{eval_in, CanCall, GivesIn}
 use Rattle.ygg_eval.proofs.Leading.{starved_here}
-use Rattle.ygg_eval.proofs.Fitting.{given_value}
-use Rattle.ygg_eval.proofs.Sourcing.{ran_choice, ran_answer, given_answer}
+use Rattle.ygg_eval.proofs.Fitting.{given_value, given_choice, ask_evaluates, ask_calls}
+use Rattle.ygg_eval.proofs.Sourcing.{ran_value, ran_choice, ran_answer, given_answer}
 use Rattle.ygg_eval.proofs.runner.Runner.source.Goals as goal
 
 pub returns-in_err-value-in-Value-clause-ran : goal.returns-in_err-value-in-Value-clause-ran
@@ -53,3 +54,28 @@ returns-in-Call-clause-ran g c next =
     (ran_answer g.W.Lower.means r.typed.now.file r.number r.stop c.args.source.now c.in-Call.field-0 c.in-Call.f c.in-Call.es c.as_slice.result.now
     (env_of c.args.names.now) (stands c.args.lower.now c.args.power.now) (stands c.call.new.lower c.call.new.power)
     c.args.left.now c.call.new.left c.call.result c.in-Call.is c.as_slice.ensures c.call.ensures next)
+
+pub value-requires : goal.value-requires
+value-requires g c =
+    let r = c.args.self.now in
+    ask_evaluates g.W.Lower.means r.typed.now.file r.number r.stop c.args.source.now c.in-Value.e (env_of c.args.names.now)
+    (stands c.args.lower.now c.args.power.now) c.in-Value.is c.requires
+
+pub call-requires : goal.call-requires
+call-requires g c =
+    let r = c.args.self.now in
+    let env = env_of c.args.names.now in
+    let at = stands c.args.lower.now c.args.power.now in
+    subst (λ (es : List Expr). CanCall g.W.Lower.means r.typed.now.file r.number r.stop c.in-Call.f es env at) (sym c.as_slice.ensures)
+    (ask_calls g.W.Lower.means r.typed.now.file r.number r.stop c.args.source.now c.in-Call.field-0 c.in-Call.f c.in-Call.es env at c.in-Call.is c.requires)
+
+pub returns-in_ok-value-in-Value-clause-ran : goal.returns-in_ok-value-in-Value-clause-ran
+returns-in_ok-value-in-Value-clause-ran g c =
+    let r = c.args.self.now in
+    ran_value g.W.Lower.means r.typed.now.file r.number r.stop c.args.source.now c.in-Value.e (env_of c.args.names.now)
+    (stands c.args.lower.now c.args.power.now) c.args.left.now c.in_ok-value-in-Value.value c.in-Value.is c.in_ok-value-in-Value.ensures
+
+pub returns-in-Choose-clause-given : goal.returns-in-Choose-clause-given
+returns-in-Choose-clause-given g c =
+    given_choice c.args.self.now.typed.now.file c.args.self.now.number c.args.source.now c.in-Choose.field-0 (env_of c.args.names.now) c.peek-pick.result
+    c.digit.result c.in-Choose.is c.digit.ensures
