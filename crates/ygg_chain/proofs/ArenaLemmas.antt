@@ -33,7 +33,8 @@ use Rattle.std.proofs.Common.{
   length-append,
   append_assoc,
 }
-use Rattle.std.proofs.lemmas.List.{drop-append-le, take-append-le, length-drop, length-take-le, map-append, take_more, get_or_append_left, get_or-map, length-map}
+use Rattle.std.proofs.lemmas.List.{drop-append-le, take-append-le, length-drop, length-take-le, map-append, take_more, get_or_append_left, get_or-map}
+use Rattle.std.proofs.lemmas.List.{length-map}
 use Rattle.std.proofs.lemmas.List.Elements.{All-weaker, All-contains, All-cons, All-nil, All-head, All-tail, All-append, All-take}
 use Rattle.std.proofs.Math.Seq.{drop-append_seam, take-length}
 use Rattle.ygg_cnf.specs.declared.lit.Lit.{Lit}

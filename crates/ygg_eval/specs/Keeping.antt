@@ -1,40 +1,21 @@
 -- The specification of a layer, the disk, and a machine without memory keep what a machine below a layer keeps. These are proofs that stand
 -- among the specifications, since the machines give them as the values of their field `keeps`.
-use Rattle.std.specs.Prelude.{◌≡◌, ℕ, ◌≤◌, Bool, true, List, [], ◌∷◌, ◌++◌, Option, Some, None}
+use Rattle.std.specs.Prelude.{ℕ, ◌≤◌, Bool, true, List, [], ◌∷◌, ◌++◌, Option, Some, None}
 use Rattle.std.proofs.Common.{refl, sym, ap, ◌∙◌, subst}
 use Rattle.std.proofs.Math.Nat.{le_refl}
 use Rattle.ygg_value.specs.declared.row.Value.{Value}
 use Rattle.ygg_syntax.specs.declared.tree.File.{File}
 use Rattle.ygg_eval.specs.ygg_disk.Power.{Takes, after_pick}
-use Rattle.ygg_eval.specs.ygg_disk.declared.power.Fuse.{Fuse}
 use Rattle.ygg_eval.specs.ygg_disk.declared.power.Picks.{Picks as Source}
 use Rattle.ygg_eval.specs.ygg_disk.declared.power.Power.{Power}
 use Rattle.ygg_eval.specs.ygg_meaning.Environments.{Name}
 use Rattle.ygg_eval.specs.ygg_meaning.Progress.{Answer}
 use Rattle.ygg_eval.specs.ygg_meaning.Machine.{Picks, based}
-use Rattle.ygg_eval.specs.Lower.{
-  Standing,
-  Meaning,
-  Ending,
-  Whole,
-  Down,
-  Failed,
-  Starved,
-  Outage,
-  Happened,
-  Lacking,
-  Cause,
-  PowerLoss,
-  GivenUp,
-  Passes,
-  KeepsInCall,
-  KeepsInFall,
-  KeepsInLoss,
-  IsLower,
-}
+use Rattle.ygg_eval.specs.Lower.{Standing, Ending, Whole, Down, Failed, Starved, Outage, Happened, Lacking, Cause, PowerLoss, GivenUp, Passes, KeepsInCall}
+use Rattle.ygg_eval.specs.Lower.{KeepsInFall, KeepsInLoss, IsLower}
 use Rattle.ygg_eval.specs.Layers.{machine_at}
 use Rattle.ygg_eval.specs.Taken.{TakesOnly}
-use Rattle.ygg_eval.specs.Kept.{Kept, Stepped, Calls, Falls, Loses, TakesBy, named_in, machine_by, spec_meaning, silent_meaning}
+use Rattle.ygg_eval.specs.Kept.{Kept, Calls, Falls, Loses, TakesBy, named_in, machine_by, spec_meaning, silent_meaning}
 
 -- where only picks were taken, power stands where it stood
 picks_pass : (picks : Picks) (before after : Power) → TakesOnly picks before after → Passes before after

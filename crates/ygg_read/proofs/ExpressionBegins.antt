@@ -9,7 +9,8 @@ use Rattle.ygg_syntax.specs.declared.tree.Quantifier.{Quantifier}
 use Rattle.ygg_syntax.specs.declared.tree.Quantifier.TheVariants as quantifier
 use Rattle.ygg_syntax.specs.Expressions.{quantifier_word}
 use Rattle.ygg_syntax.specs.Reading.{token}
-use Rattle.ygg_syntax.specs.Pending.{Pending, exactly, name, number, operator, expression, indices, arguments, rest_of_arguments, more_expressions, sign_of, outcome}
+use Rattle.ygg_syntax.specs.Pending.{Pending, exactly, name, number, operator, expression, indices, arguments, rest_of_arguments, more_expressions, sign_of}
+use Rattle.ygg_syntax.specs.Pending.{outcome}
 
 pub begins_constant : (n : ℕ) (at : Place) (rest : List Token) (qs : List Pending) →
     outcome (expression ∷ qs) (token (mark.Num n) at ∷ rest) ≡ outcome (sign_of sign.Colon ∷ number ∷ indices ∷ qs) rest

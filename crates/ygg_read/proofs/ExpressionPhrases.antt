@@ -18,7 +18,8 @@ use Rattle.ygg_syntax.specs.declared.tree.Expr.TheVariants as tree
 use Rattle.ygg_syntax.specs.declared.tree.Expr.TheOpen.{Expr-F}
 use Rattle.ygg_syntax.specs.declared.tree.Expr.TheFolds.{fold-roll-Expr}
 use Rattle.ygg_syntax.specs.Reading.{Reading, token, same_mark, takes, passes, in_turn}
-use Rattle.ygg_syntax.specs.Expressions.{Phrase, node_phrase, phrase, expr, symbol, keyword, named, numbered, whole, any, some, indexed, operator_sign, quantifier_word}
+use Rattle.ygg_syntax.specs.Expressions.{Phrase, node_phrase, phrase, expr, symbol, keyword, named, numbered, whole, any, some, indexed, operator_sign}
+use Rattle.ygg_syntax.specs.Expressions.{quantifier_word}
 
 equal : (n : ℕ) → n == n ≡ true
 equal n = grind (arith, nat_tests)

@@ -9,7 +9,9 @@ use Rattle.ygg_base.specs.declared.token.Mark.TheVariants as mark
 use Rattle.ygg_base.specs.declared.token.Token.{Token}
 use Rattle.ygg_syntax.specs.declared.tree.Place.{Place}
 use Rattle.ygg_syntax.specs.Reading.{token, starts, same_mark}
-use Rattle.ygg_syntax.specs.Pending.{Pending, exactly, name, number, operator, expression, indices, arguments, rest_of_arguments, more_expressions, sign_of, Part, index, argument_list, next_expression, perhaps, repeated, beginning, after, after_expression, after_arguments, then_come, after_operator, operation_of, After, leaves, drops, refuses, step, End, stops, outcome}
+use Rattle.ygg_syntax.specs.Pending.{Pending, exactly, name, number, operator, expression, indices, arguments, rest_of_arguments, more_expressions, sign_of}
+use Rattle.ygg_syntax.specs.Pending.{Part, index, argument_list, next_expression, perhaps, repeated, beginning, after, after_expression, after_arguments}
+use Rattle.ygg_syntax.specs.Pending.{then_come, after_operator, operation_of, After, leaves, drops, refuses, step, End, stops, outcome}
 use Rattle.ygg_read.specs.ExpressionSteps.{Stops}
 use Rattle.ygg_read.proofs.ExpressionPhrases.{same}
 

@@ -16,8 +16,10 @@ use Rattle.ygg_syntax.specs.declared.tree.Expr.{Expr, map-Expr}
 use Rattle.ygg_syntax.specs.declared.tree.Expr.TheOpen.{Expr-F}
 use Rattle.ygg_syntax.specs.declared.tree.Expr.TheFolds.{ind-Expr, fold-roll-Expr}
 use Rattle.ygg_syntax.specs.Reading.{Reading, token, same_mark, starts, passes, takes, in_turn, impossible}
-use Rattle.ygg_syntax.specs.Expressions.{Phrase, node_phrase, phrase, expr, whole, indexed, any, some, more, symbol, named, numbered, operator_sign, quantifier_word}
-use Rattle.ygg_syntax.specs.Pending.{Pending, exactly, name, number, operator, expression, indices, arguments, rest_of_arguments, more_expressions, sign_of, word_of, refuses, after_expression, outcome}
+use Rattle.ygg_syntax.specs.Expressions.{Phrase, node_phrase, phrase, expr, whole, indexed, any, some, more, symbol, named, numbered, operator_sign}
+use Rattle.ygg_syntax.specs.Expressions.{quantifier_word}
+use Rattle.ygg_syntax.specs.Pending.{Pending, exactly, name, number, operator, expression, indices, arguments, rest_of_arguments, more_expressions, sign_of}
+use Rattle.ygg_syntax.specs.Pending.{word_of, refuses, after_expression, outcome}
 use Rattle.ygg_read.specs.ExpressionSteps.{GoesAsAtom}
 use Rattle.ygg_read.proofs.ExpressionPhrases.{joined}
 use Rattle.ygg_read.proofs.Marks.{same_is, Comes, passed, took}

@@ -1,5 +1,5 @@
 -- What a call on a disk wants follows from what a typed block may ask; and what calls keep.
-use Rattle.std.proofs.Common.{◌≡◌, ℕ, Some, List, [], ◌∷◌, map, sym, subst, Result, Ok, Err, OnOk, Bor}
+use Rattle.std.proofs.Common.{◌≡◌, ℕ, Some, List, [], map, sym, subst, Result, Ok, Err, OnOk, Bor}
 use Rattle.ygg_syntax.specs.declared.tree.DiskText.{DiskText}
 use Rattle.ygg_sym_runs.specs.ygg_type_rules.Files.{disk_operations}
 use Rattle.ygg_sym_runs.specs.ygg_meaning_laws_proofs_DiskServes.{fitting_call}
@@ -7,7 +7,6 @@ use Rattle.ygg_sym_runs.specs.ygg_rules.declared.rule.RuleKind.{RuleKind}
 use Rattle.ygg_sym_runs.specs.ygg_bank_proofs_Widths.{stands}
 use Rattle.ygg_sym_runs.specs.ygg_bank.Nodes.{IsBank}
 use Rattle.ygg_sym_runs.specs.ygg_bank.Values.{Inputs, Values, value_of}
-use Rattle.ygg_sym_runs.specs.ygg_bank.declared.node.Id.{Id}
 use Rattle.ygg_sym_runs.specs.ygg_bank.declared.node.Node.{Node}
 use Rattle.ygg_sym_runs.proofs.of_ygg_shape.Answered.{no_inputs, some_fit}
 use Rattle.ygg_sym_runs.specs.ygg_shape_cells.Terms.{worth}

@@ -54,7 +54,7 @@ use Rattle.ygg_eval_expr.specs.ygg_meaning_laws.TypeErrors.{none}
 use Rattle.ygg_eval_expr.specs.ygg_meaning_laws.Scopes.{Scope, name_in, low_in, with_local}
 use Rattle.ygg_eval_expr.specs.ygg_meaning_laws.Shapes.{word_shape}
 use Rattle.ygg_eval_expr.specs.ygg_meaning_laws.Expressions.{Typing, node_typing, typing, with_number, name_rule, low_rule, operator_rule}
-use Rattle.ygg_eval_expr.specs.ygg_meaning_laws.Environments.{Name, Env}
+use Rattle.ygg_eval_expr.specs.ygg_meaning_laws.Environments.{Name}
 use Rattle.ygg_eval_expr.specs.ygg_meaning_laws.Environments as names
 use Rattle.ygg_eval_expr.specs.ygg_meaning_laws.Meaning.{Functions, is_one, all_below, any_below, quantified, row_of, value_with}
 use Rattle.ygg_eval_expr.specs.ygg_meaning_laws.Meaning as meaning

@@ -1,5 +1,5 @@
 -- What runs over terms on what a layer is specified over are worth: in each environment some concrete run, and each concrete run in some environment.
-use Rattle.std.specs.Prelude.{◌≡◌, ◌<◌, ◌≤◌, ◌+◌, ◌*◌, ℕ, Bool, true, IsTrue, List, map, length, reverse, Option, Some}
+use Rattle.std.specs.Prelude.{◌≡◌, ◌<◌, ◌≤◌, ◌+◌, ◌*◌, ℕ, Bool, true, IsTrue, List, map, reverse, Option}
 use Rattle.ygg_value.specs.declared.shape.Shape.{Shape}
 use Rattle.ygg_syntax.specs.declared.tree.Declared.{Declared}
 use Rattle.ygg_syntax.specs.declared.tree.Def.{Def}
@@ -7,9 +7,8 @@ use Rattle.ygg_syntax.specs.declared.tree.Block.{Block}
 use Rattle.ygg_sym_runs.specs.ygg_meaning.Environments.{Env}
 use Rattle.ygg_sym_runs.specs.ygg_meaning.Shapes.{env_fits}
 use Rattle.ygg_sym_runs.specs.ygg_meaning.Progress.{Answer}
-use Rattle.ygg_sym_runs.specs.ygg_meaning.Machine.{Picks, State, based, on, Machine}
+use Rattle.ygg_sym_runs.specs.ygg_meaning.Machine.{Picks, State, based, on}
 use Rattle.ygg_sym_runs.specs.ygg_meaning.Layer.{ClosedLayer, BlockRuns, BlockFalls}
-use Rattle.ygg_sym_runs.specs.ygg_meaning.Obligations.{Halt, StopsAt}
 use Rattle.ygg_sym_runs.specs.ygg_meaning.Refines.{Below, machine_below}
 use Rattle.ygg_sym_runs.specs.Blocks.{is_returned}
 use Rattle.ygg_sym_runs.specs.ygg_rules.declared.rule.RuleKind.{RuleKind}
@@ -21,12 +20,12 @@ use Rattle.ygg_sym_runs.specs.ygg_bank.declared.node.Node.{Node}
 use Rattle.ygg_sym_runs.specs.ygg_shape_cells.declared.terms.SymValue.{SymValue}
 use Rattle.ygg_sym_runs.specs.Names.{SymEnv, sym_bind}
 use Rattle.ygg_sym_runs.specs.Exprs.{SymFunctions, sym_functions}
-use Rattle.ygg_sym_runs.specs.ExpressionMeaning.{Grows, worths}
+use Rattle.ygg_sym_runs.specs.ExpressionMeaning.{Grows}
 use Rattle.ygg_sym_runs.specs.Meaning.{AnswerShaped, answer_worth, is_set}
 use Rattle.ygg_sym_runs.specs.Lows.{LowShaped, low_worth}
 use Rattle.ygg_sym_runs.specs.StopTerms.{SymFallen}
 use Rattle.ygg_sym_runs.specs.Wholes.{SymFinish}
-use Rattle.ygg_sym_runs.specs.Laws.{picked_by, state_worth}
+use Rattle.ygg_sym_runs.specs.Laws.{picked_by}
 use Rattle.ygg_sym_runs.specs.Below.{places_on, failure_room, run_made, cut_made, lost_made, lows_at_start}
 
 -- so many inputs, from a number on, are these bits

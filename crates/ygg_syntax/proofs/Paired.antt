@@ -35,6 +35,7 @@ module _ {A B : Type 0} (f : A → B) (a : List A) (i : ℕ) (rest : List A) {W 
   ends r e l = by rest h e where
     past : map f (drop i a) ≡ []
     past = ap (map f) (drop_all i a l)
+
     by : (zs : List A) → ((map f (drop i a) ≡ map f zs) ↔ W) → r ≡ nat_eq (length zs) 0 → (r ≡ true) ↔ W
     by [] g e = (λ yes. g.0 past, λ w. e)
     by (z ∷ zs) g e = (λ yes. absurd (omega (arith, eqb-true (length (z ∷ zs)) 0 (sym e ∙ yes))), λ w. let whole = g.1 w in let none = past in cc)

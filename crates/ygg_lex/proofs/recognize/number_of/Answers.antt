@@ -7,9 +7,11 @@ returns-then-has_leading_zero c = leading c.args.digits.now c.if-has_leading_zer
 
 pub loop-digit-preserved : goal.loop-digit-preserved
 loop-digit-preserved c =
-    let small : c.in-Some.longer < 2 ^ 64 = search rules in
-    (small, one_digit c.args.digits.now c.loop-digit.digit-index c.loop-digit.number c.in-Some.longer c.loop-digit-test.true c.loop-digit.invariant.1
-    c.in-Some.ensures.some)
+    let small : c.in-Some.longer < 2 ^ 64 = search rules in (
+      small,
+      one_digit c.args.digits.now c.loop-digit.digit-index c.loop-digit.number c.in-Some.longer c.loop-digit-test.true c.loop-digit.invariant.1
+          c.in-Some.ensures.some,
+    )
 
 pub returns-in-None : goal.returns-in-None
 returns-in-None c =

@@ -86,7 +86,8 @@ returns-in_default-clause-rows c =
     let read : List ℕ → Option (List ℕ) = row_in c.args.width c.args.words in
     let front : List (List ℕ) = take c.loop-at.at c.loop-at.table.rows in
     sym (too_few read 59 front c.args.rows c.loop-at.at c.loop-at-test.true)
-    ∙ ap (λ (left : Option (Bor (List ℕ))). with_front front (exactly read (c.args.rows - c.loop-at.at) (pieces_of 59 (option_copied left)))) (sym c.in_default.is)
+    ∙ ap (λ (left : Option (Bor (List ℕ))). with_front front (exactly read (c.args.rows - c.loop-at.at) (pieces_of 59 (option_copied left))))
+    (sym c.in_default.is)
     ∙ c.loop-at.invariant.0
 
 pub table_write-requires : goal.table_write-requires

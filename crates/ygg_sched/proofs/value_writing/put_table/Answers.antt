@@ -19,7 +19,7 @@ loop-at-preserved c = (
 )
 
 pub table_read-requires : goal.table_read-requires
-table_read-requires c = record { width = c.loop-at.invariant.1; words = c.loop-at.invariant.2; }
+table_read-requires c = record { width = c.loop-at.invariant.1; words = c.loop-at.invariant.2 }
 
 pub put_row-requires : goal.put_row-requires
 put_row-requires c = c.requires.words ∙ sym (c.table_read.ensures.words ∙ c.loop-at.invariant.2)

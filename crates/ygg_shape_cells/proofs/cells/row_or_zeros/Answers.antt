@@ -15,7 +15,7 @@ returns-in-Some-clause-nodes g c =
     let table = c.args.table.now in
     let row = c.in-Some.row.now in
     let there : slice_get table c.args.place.bits ≡ Some row = sym (ap (λ (n : Number). slice_get table n.bits) c.place.view_is)
-        ∙ slice_get_read table (length table) c.place.inside.bits row refl c.in-Some.ensures.lookup.3.0 c.in-Some.ensures.lookup.1 in
+    ∙ slice_get_read table (length table) c.place.inside.bits row refl c.in-Some.ensures.lookup.3.0 c.in-Some.ensures.lookup.1 in
     read_nodes (g.B.Book.kinds c.args.book.now) c.args.bank.now _ (words_in table) (width_in c.args.bank.now table) row c.copy.result there
 
 pub returns-in-Some-clause-form : goal.returns-in-Some-clause-form
@@ -23,7 +23,7 @@ returns-in-Some-clause-form g c =
     let table = c.args.table.now in
     let row = c.in-Some.row.now in
     let there : slice_get table c.args.place.bits ≡ Some row = sym (ap (λ (n : Number). slice_get table n.bits) c.place.view_is)
-        ∙ slice_get_read table (length table) c.place.inside.bits row refl c.in-Some.ensures.lookup.3.0 c.in-Some.ensures.lookup.1 in
+    ∙ slice_get_read table (length table) c.place.inside.bits row refl c.in-Some.ensures.lookup.3.0 c.in-Some.ensures.lookup.1 in
     read_form (g.B.Book.kinds c.args.book.now) c.args.bank.now _ (words_in table) (width_in c.args.bank.now table) row c.copy.result there c.copy.ensures
 
 pub returns-in-Some-clause-grows : goal.returns-in-Some-clause-grows
@@ -36,15 +36,15 @@ pub returns-in-None-clause-nodes : goal.returns-in-None-clause-nodes
 returns-in-None-clause-nodes g c =
     let table = c.args.table.now in
     let none : slice_get table c.args.place.bits ≡ None = sym (ap (λ (n : Number). slice_get table n.bits) c.place.view_is)
-        ∙ slice_get_past table c.place.inside.bits c.in-None.ensures.lookup.3 in
+    ∙ slice_get_past table c.place.inside.bits c.in-None.ensures.lookup.3 in
     past_nodes (g.B.Book.kinds c.args.book.now) c.args.bank.now _ (words_in table) (width_in c.args.bank.now table) c.zeros.new.bank c.zeros.result none
-        c.zeros.ensures.nodes
+    c.zeros.ensures.nodes
 
 pub returns-in-None-clause-form : goal.returns-in-None-clause-form
 returns-in-None-clause-form g c =
     let table = c.args.table.now in
     let none : slice_get table c.args.place.bits ≡ None = sym (ap (λ (n : Number). slice_get table n.bits) c.place.view_is)
-        ∙ slice_get_past table c.place.inside.bits c.in-None.ensures.lookup.3 in
+    ∙ slice_get_past table c.place.inside.bits c.in-None.ensures.lookup.3 in
     past_form (g.B.Book.kinds c.args.book.now) c.args.bank.now _ (words_in table) (width_in c.args.bank.now table) c.zeros.result none c.zeros.ensures.form
 
 pub returns-in-None-clause-grows : goal.returns-in-None-clause-grows

@@ -18,8 +18,8 @@ merge_row-requires-clause-rows g c =
     let seen = c.as_slice.result.now in
     let place : c.place.inside.bits ≡ c.args.place.bits = ap (λ (n : Number). n.bits) c.place.view_is in
     let there : slice_get table c.args.place.bits ≡ Some old = ap (slice_get table) (sym place)
-        ∙ ap (λ z. slice_get z c.place.inside.bits) (sym c.as_slice.ensures)
-        ∙ slice_get_read seen (length seen) c.place.inside.bits old refl c.in-Some.ensures.lookup.3.0 c.in-Some.ensures.lookup.1 in
+    ∙ ap (λ z. slice_get z c.place.inside.bits) (sym c.as_slice.ensures)
+    ∙ slice_get_read seen (length seen) c.place.inside.bits old refl c.in-Some.ensures.lookup.3.0 c.in-Some.ensures.lookup.1 in
     alike_there c.args.bank.now table c.args.row.now old c.as_slice-in-Some.result.now c.as_slice-in-Some-2.result.now
     c.args.place.bits c.requires.table there c.as_slice-in-Some.ensures c.as_slice-in-Some-2.ensures
 
@@ -36,10 +36,10 @@ returns-in_ok-new-in-Some-clause-nodes g c =
     let seen = c.as_slice.result.now in
     let place : c.place.inside.bits ≡ c.args.place.bits = ap (λ (n : Number). n.bits) c.place.view_is in
     let there : slice_get table c.args.place.bits ≡ Some old = ap (slice_get table) (sym place)
-        ∙ ap (λ z. slice_get z c.place.inside.bits) (sym c.as_slice.ensures)
-        ∙ slice_get_read seen (length seen) c.place.inside.bits old refl c.in-Some.ensures.lookup.3.0 c.in-Some.ensures.lookup.1 in
+    ∙ ap (λ z. slice_get z c.place.inside.bits) (sym c.as_slice.ensures)
+    ∙ slice_get_read seen (length seen) c.place.inside.bits old refl c.in-Some.ensures.lookup.3.0 c.in-Some.ensures.lookup.1 in
     written_nodes (g.B.Book.kinds c.args.book.now) c.args.bank.now _ c.args.test table c.args.row.now old c.as_slice-in-Some.result.now
-        c.as_slice-in-Some-2.result.now
+    c.as_slice-in-Some-2.result.now
     c.args.place.bits c.merge_row.new.bank c.put_row.result there c.as_slice-in-Some.ensures c.as_slice-in-Some-2.ensures c.in_ok-new-in-Some.ensures.nodes
 
 pub returns-in_ok-new-in-Some-clause-form : goal.returns-in_ok-new-in-Some-clause-form
@@ -49,10 +49,10 @@ returns-in_ok-new-in-Some-clause-form g c =
     let seen = c.as_slice.result.now in
     let place : c.place.inside.bits ≡ c.args.place.bits = ap (λ (n : Number). n.bits) c.place.view_is in
     let there : slice_get table c.args.place.bits ≡ Some old = ap (slice_get table) (sym place)
-        ∙ ap (λ z. slice_get z c.place.inside.bits) (sym c.as_slice.ensures)
-        ∙ slice_get_read seen (length seen) c.place.inside.bits old refl c.in-Some.ensures.lookup.3.0 c.in-Some.ensures.lookup.1 in
+    ∙ ap (λ z. slice_get z c.place.inside.bits) (sym c.as_slice.ensures)
+    ∙ slice_get_read seen (length seen) c.place.inside.bits old refl c.in-Some.ensures.lookup.3.0 c.in-Some.ensures.lookup.1 in
     written_form (g.B.Book.kinds c.args.book.now) c.args.bank.now _ c.args.test table c.args.row.now old c.as_slice-in-Some.result.now
-        c.as_slice-in-Some-2.result.now _
+    c.as_slice-in-Some-2.result.now _
     c.args.place.bits c.put_row.result there c.as_slice-in-Some.ensures c.as_slice-in-Some-2.ensures c.in_ok-new-in-Some.ensures.form c.put_row.ensures
 
 pub returns-in_ok-new-in-Some-clause-grows : goal.returns-in_ok-new-in-Some-clause-grows
@@ -67,7 +67,7 @@ returns-in-None-clause-nodes g c =
     let seen = c.as_slice.result.now in
     let place : c.place.inside.bits ≡ c.args.place.bits = ap (λ (n : Number). n.bits) c.place.view_is in
     let none : slice_get table c.args.place.bits ≡ None = ap (slice_get table) (sym place) ∙ ap (λ z. slice_get z c.place.inside.bits) (sym c.as_slice.ensures)
-        ∙ slice_get_past seen c.place.inside.bits c.in-None.ensures.lookup.3 in
+    ∙ slice_get_past seen c.place.inside.bits c.in-None.ensures.lookup.3 in
     kept_nodes (g.B.Book.kinds c.args.book.now) c.args.bank.now _ c.args.test table c.args.row.now c.args.place.bits c.copy.result none
 
 pub returns-in-None-clause-form : goal.returns-in-None-clause-form
@@ -76,7 +76,7 @@ returns-in-None-clause-form g c =
     let seen = c.as_slice.result.now in
     let place : c.place.inside.bits ≡ c.args.place.bits = ap (λ (n : Number). n.bits) c.place.view_is in
     let none : slice_get table c.args.place.bits ≡ None = ap (slice_get table) (sym place) ∙ ap (λ z. slice_get z c.place.inside.bits) (sym c.as_slice.ensures)
-        ∙ slice_get_past seen c.place.inside.bits c.in-None.ensures.lookup.3 in
+    ∙ slice_get_past seen c.place.inside.bits c.in-None.ensures.lookup.3 in
     kept_form (g.B.Book.kinds c.args.book.now) c.args.bank.now _ c.args.test table c.args.row.now c.args.place.bits c.copy.result none c.copy.ensures
 
 pub returns-in-None-clause-grows : goal.returns-in-None-clause-grows

@@ -1,4 +1,4 @@
-use Rattle.std.proofs.Common.{◌≡◌, List, All, length, map, sym, subst, ap, arith}
+use Rattle.std.proofs.Common.{◌≡◌, List, length, sym, subst, ap, arith}
 use Rattle.std.proofs.lemmas.List.{length-map}
 use Rattle.ygg_cnf.specs.declared.log.Step.{Step}
 use Rattle.ygg_cnf.specs.Literals.{truth_of}

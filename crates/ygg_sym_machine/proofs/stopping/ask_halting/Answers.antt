@@ -167,7 +167,8 @@ returns-clause-state g c =
 pub bit-requires : goal.bit-requires
 bit-requires g c =
     let z = halted_of c.args.to.now c.args.fallen.now c.args.stopped in
-    let lose = can_lose (g.W.SymLower.means c.args.stops.now) (g.W.SymStops.power c.args.stops.now) c.args.bank.now (question_of c.args.question) z c.requires.asks in
+    let K = g.W.SymStops.power c.args.stops.now in
+    let lose = can_lose (g.W.SymLower.means c.args.stops.now) K c.args.bank.now (question_of c.args.question) z c.requires.asks in
     lose.single
 
 pub bit-requires-2 : goal.bit-requires-2

@@ -92,17 +92,23 @@ expression-returns-else-expression-3 t c =
     (λ yes. absurd (false≢true (sym c.if-expression-3.false ∙ yes)), λ same. c.expression-in-Pick-Pick.ensures.1 (whole.1 same).0)
 
 pub expressions-returns-in_default : goal.expressions-returns-in_default
-expressions-returns-in_default t c = shorter bare c.args.a.now c.loop-one.one-index c.loop-one.rest.now c.loop-one.invariant c.one-item.result c.loop-one-test.true c.one-item.is c.in_default.ensures.cases
+expressions-returns-in_default t c =
+    shorter bare c.args.a.now c.loop-one.one-index c.loop-one.rest.now c.loop-one.invariant c.one-item.result
+    c.loop-one-test.true c.one-item.is c.in_default.ensures.cases
 
 pub expressions-returns-then-not-expression : goal.expressions-returns-then-not-expression
 expressions-returns-then-not-expression t c =
-    differ bare c.args.a.now c.loop-one.one-index c.loop-one.rest.now c.loop-one.invariant c.one-item.result c.in-Some.other.now c.in-Some.others.now c.expression.result c.loop-one-test.true c.one-item.is
+    differ bare c.args.a.now c.loop-one.one-index c.loop-one.rest.now c.loop-one.invariant
+    c.one-item.result c.in-Some.other.now c.in-Some.others.now c.expression.result c.loop-one-test.true c.one-item.is
     c.in-Some.ensures.cases.0 c.if-not-expression.true c.expression.ensures
 
 pub expressions-loop-one-preserved : goal.expressions-loop-one-preserved
 expressions-loop-one-preserved t c =
-    next bare c.args.a.now c.loop-one.one-index c.loop-one.rest.now c.loop-one.invariant c.one-item.result c.in-Some.other.now c.in-Some.others.now c.loop-one-test.true c.one-item.is c.in-Some.ensures.cases.0
+    next bare c.args.a.now c.loop-one.one-index c.loop-one.rest.now c.loop-one.invariant
+    c.one-item.result c.in-Some.other.now c.in-Some.others.now c.loop-one-test.true c.one-item.is c.in-Some.ensures.cases.0
     (c.expression.ensures.0 c.if-not-expression.false)
 
 pub expressions-returns : goal.expressions-returns
-expressions-returns t c = ends bare c.args.a.now c.loop-one.one-index c.loop-one.rest.now c.loop-one.invariant c.is_empty.result c.is_empty.ensures c.loop-one-test.false
+expressions-returns t c =
+    ends bare c.args.a.now c.loop-one.one-index c.loop-one.rest.now c.loop-one.invariant
+    c.is_empty.result c.is_empty.ensures c.loop-one-test.false

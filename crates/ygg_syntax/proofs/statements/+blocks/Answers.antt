@@ -29,17 +29,23 @@ statement-returns-then-range t c =
     (λ yes. whole.0 (first, c.block-then-range.ensures.0 yes), λ same. c.block-then-range.ensures.1 (whole.1 same).1)
 
 pub statements-returns-in_default : goal.statements-returns-in_default
-statements-returns-in_default t c = shorter bare_statement c.args.a.now c.loop-one.one-index c.loop-one.rest.now c.loop-one.invariant c.one-item.result c.loop-one-test.true c.one-item.is c.in_default.ensures.cases
+statements-returns-in_default t c =
+    shorter bare_statement c.args.a.now c.loop-one.one-index c.loop-one.rest.now c.loop-one.invariant c.one-item.result
+    c.loop-one-test.true c.one-item.is c.in_default.ensures.cases
 
 pub statements-returns-then-not-statement : goal.statements-returns-then-not-statement
 statements-returns-then-not-statement t c =
-    differ bare_statement c.args.a.now c.loop-one.one-index c.loop-one.rest.now c.loop-one.invariant c.one-item.result c.in-Some.other.now c.in-Some.others.now c.statement.result c.loop-one-test.true c.one-item.is
+    differ bare_statement c.args.a.now c.loop-one.one-index c.loop-one.rest.now c.loop-one.invariant
+    c.one-item.result c.in-Some.other.now c.in-Some.others.now c.statement.result c.loop-one-test.true c.one-item.is
     c.in-Some.ensures.cases.0 c.if-not-statement.true c.statement.ensures
 
 pub statements-loop-one-preserved : goal.statements-loop-one-preserved
 statements-loop-one-preserved t c =
-    next bare_statement c.args.a.now c.loop-one.one-index c.loop-one.rest.now c.loop-one.invariant c.one-item.result c.in-Some.other.now c.in-Some.others.now c.loop-one-test.true c.one-item.is c.in-Some.ensures.cases.0
+    next bare_statement c.args.a.now c.loop-one.one-index c.loop-one.rest.now c.loop-one.invariant
+    c.one-item.result c.in-Some.other.now c.in-Some.others.now c.loop-one-test.true c.one-item.is c.in-Some.ensures.cases.0
     (c.statement.ensures.0 c.if-not-statement.false)
 
 pub statements-returns : goal.statements-returns
-statements-returns t c = ends bare_statement c.args.a.now c.loop-one.one-index c.loop-one.rest.now c.loop-one.invariant c.is_empty.result c.is_empty.ensures c.loop-one-test.false
+statements-returns t c =
+    ends bare_statement c.args.a.now c.loop-one.one-index c.loop-one.rest.now c.loop-one.invariant
+    c.is_empty.result c.is_empty.ensures c.loop-one-test.false

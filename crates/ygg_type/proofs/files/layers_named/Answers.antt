@@ -26,7 +26,8 @@ loop-before-preserved c =
     record {
       first =
           ap (λ found. first_after found (layers_errors left (i + 1) c.layer.new.names known (below_in (scope_of c.layer.new.checker)) weights))
-          (done.first ∙ ap (λ ds. first_after (first_after before (count_error i layer)) (layer_errors layer names ds below weights)) c.loop-before.invariant.defs)
+          (done.first
+          ∙ ap (λ ds. first_after (first_after before (count_error i layer)) (layer_errors layer names ds below weights)) c.loop-before.invariant.defs)
           ∙ ap (λ ns. first_after (own layer) (layers_errors left (i + 1) ns known (below_in (scope_of c.layer.new.checker)) weights)) done.names
           ∙ ap (λ b. first_after (own layer) (layers_errors left (i + 1) (added layer.name.text tt names) known b weights)) done.below
           ∙ ap (λ l. first_after (own l) (layers_errors left (i + 1) (added l.name.text tt names) known (below_of l) weights)) c.index-all-before.is

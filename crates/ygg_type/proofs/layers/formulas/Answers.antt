@@ -18,7 +18,8 @@ loop-e-preserved c =
           ap (λ found. first_after found left)
           (c.in_ok-formula.ensures.first ∙ ap (λ s. first_after before (formula_errors view c.e-item.result weights s)) c.loop-e.invariant.same)
           ∙ ap (λ e. first_after (first_after before (formula_errors view e weights scope)) left) c.e-item.is
-          ∙ sym (at_drop_more (λ es. first_after before (formulas_errors view es weights scope)) c.args.all.now c.loop-e.e-index c.e-item.result c.loop-e-test.true)
+          ∙ sym (at_drop_more (λ es. first_after before (formulas_errors view es weights scope)) c.args.all.now c.loop-e.e-index c.e-item.result
+          c.loop-e-test.true)
           ∙ c.loop-e.invariant.first;
       same = c.in_ok-formula.ensures.same ∙ c.loop-e.invariant.same;
     }

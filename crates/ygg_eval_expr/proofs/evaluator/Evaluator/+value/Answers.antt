@@ -195,17 +195,21 @@ pub value-value-requires : goal.value-value-requires
 value-value-requires t c =
     let k = known_of c.args.self.now in
     let lighter = left_lighter k c.args.e.now c.in-Binary.field-0 c.in-Binary.a c.in-Binary.op c.in-Binary.field-3 c.in-Binary.b c.get.result.now
-        c.in-Binary.is c.get.ensures in
-    (omega arith, ready_left k c.args.e.now c.in-Binary.field-0 c.in-Binary.a c.in-Binary.op c.in-Binary.field-3 c.in-Binary.b c.get.result.now c.requires
-        c.in-Binary.is c.get.ensures)
+    c.in-Binary.is c.get.ensures in (
+      omega arith,
+      ready_left k c.args.e.now c.in-Binary.field-0 c.in-Binary.a c.in-Binary.op c.in-Binary.field-3 c.in-Binary.b c.get.result.now c.requires
+          c.in-Binary.is c.get.ensures,
+    )
 
 pub value-value-requires-in-Binary : goal.value-value-requires-in-Binary
 value-value-requires-in-Binary t c =
     let k = known_of c.args.self.now in
     let lighter = right_lighter k c.args.e.now c.in-Binary.field-0 c.in-Binary.a c.in-Binary.op c.in-Binary.field-3 c.in-Binary.b c.get-in-Binary.result.now
-        c.in-Binary.is c.get-in-Binary.ensures in
-    (omega arith, ready_right k c.args.e.now c.in-Binary.field-0 c.in-Binary.a c.in-Binary.op c.in-Binary.field-3 c.in-Binary.b c.get-in-Binary.result.now
-        c.requires c.in-Binary.is c.get-in-Binary.ensures)
+    c.in-Binary.is c.get-in-Binary.ensures in (
+      omega arith,
+      ready_right k c.args.e.now c.in-Binary.field-0 c.in-Binary.a c.in-Binary.op c.in-Binary.field-3 c.in-Binary.b c.get-in-Binary.result.now
+          c.requires c.in-Binary.is c.get-in-Binary.ensures,
+    )
 
 pub value-operated-requires : goal.value-operated-requires
 value-operated-requires t c =
@@ -264,9 +268,11 @@ pub value-word-requires-in-Pick : goal.value-word-requires-in-Pick
 value-word-requires-in-Pick t c =
     let k = known_of c.args.self.now in
     let lighter = test_lighter k c.args.e.now c.in-Pick.field-0 c.in-Pick.test c.in-Pick.a c.in-Pick.b c.get-in-Pick.result.now c.in-Pick.is
-        c.get-in-Pick.ensures in
-    (omega arith, ready_test k c.args.e.now c.in-Pick.field-0 c.in-Pick.test c.in-Pick.a c.in-Pick.b c.get-in-Pick.result.now c.requires c.in-Pick.is
-        c.get-in-Pick.ensures)
+    c.get-in-Pick.ensures in (
+      omega arith,
+      ready_test k c.args.e.now c.in-Pick.field-0 c.in-Pick.test c.in-Pick.a c.in-Pick.b c.get-in-Pick.result.now c.requires c.in-Pick.is
+          c.get-in-Pick.ensures,
+    )
 
 pub value-value-requires-then-test-eq1 : goal.value-value-requires-then-test-eq1
 value-value-requires-then-test-eq1 t c =
@@ -310,9 +316,11 @@ pub value-word-requires-in-Resize : goal.value-word-requires-in-Resize
 value-word-requires-in-Resize t c =
     let k = known_of c.args.self.now in
     let lighter = resized_lighter k c.args.e.now c.in-Resize.field-0 c.in-Resize.a c.in-Resize.w c.get-in-Resize.result.now c.in-Resize.is
-        c.get-in-Resize.ensures in
-    (omega arith, ready_resized k c.args.e.now c.in-Resize.field-0 c.in-Resize.a c.in-Resize.w c.get-in-Resize.result.now c.requires c.in-Resize.is
-        c.get-in-Resize.ensures)
+    c.get-in-Resize.ensures in (
+      omega arith,
+      ready_resized k c.args.e.now c.in-Resize.field-0 c.in-Resize.a c.in-Resize.w c.get-in-Resize.result.now c.requires c.in-Resize.is
+          c.get-in-Resize.ensures,
+    )
 
 pub value-returns-in_ok-a-in-Resize : goal.value-returns-in_ok-a-in-Resize
 value-returns-in_ok-a-in-Resize t c =
