@@ -1,8 +1,9 @@
 -- The image that is attached, and how it is attached.
-use Rattle.std.proofs.Common.{◌≡◌, ◌≤◌, ◌*◌, ◌++◌, ℕ, List, [], ◌∷◌, Option, Some, None, inl, length, refl, sym, ap, subst, ◌∙◌}
+use Rattle.std.proofs.Common.{◌≡◌, ◌≤◌, ◌*◌, ◌++◌, ℕ, List, [], ◌∷◌, Option, Some, None, inl, length, refl, sym, ap, subst, ◌∙◌, arith}
 use Rattle.std.specs.Prelude.{slice_get, slice_set, slice_index_or, All, option_map, replicate}
 use Rattle.std.proofs.lemmas.List.Elements.{All-set, All-push}
-use Rattle.std.proofs.lemmas.Option.{slice_get-get_or}
+use Rattle.std.proofs.lemmas.List.{length-replicate}
+use Rattle.std.proofs.lemmas.Option.{slice_get-get_or, slice_get_within}
 use Rattle.ygg_base.specs.declared.outside.Moved.TheVariants.{Done, Failed}
 use Rattle.ygg_base.specs.declared.image.Stored.{Stored}
 use Rattle.ygg_base.specs.declared.image.Place.{Place}
@@ -161,3 +162,13 @@ module _ (before now : List Stored) (new : Stored) (place : ℕ) (name : List �
       ∙ ap (λ n. Some (record { name = n; view = new.view.items; stable = new.stable.items })) named
       ∙ ap (λ v. Some (record { name = name; view = v; stable = new.stable.items })) view
       ∙ ap (λ v. Some (record { name = name; view = replicate bytes 0; stable = v })) stable
+
+  -- it is seen in blocks that are as many bytes
+  pub created_seen : (size count : ℕ) → count * size ≡ bytes → AreSeen now (Some (record { place = place; size = size; count = count }))
+  created_seen size count whole = λ p is.
+      let r : Place = record { place = place; size = size; count = count } in
+      let viewed : length new.view.items ≡ bytes = ap length view ∙ length-replicate bytes 0 in
+      subst (λ (q : Place). ArePlaced now q) (some_same r p is) (
+        slice_get_within now place new added.stands,
+        λ s stands. subst (λ t. IsSeen now r t) (some_same new s (sym added.stands ∙ stands)) (added.first, omega (arith, whole, viewed)),
+      )
