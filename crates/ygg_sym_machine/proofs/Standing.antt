@@ -1,5 +1,5 @@
 -- What may be asked of a machine with stops, among more nodes, and of its parts.
-use Rattle.std.proofs.Common.{◌≡◌, ◌≤◌, List, Some, Result, Ok, Err, OnOk, IfOk, sym, ap, ◌∙◌, subst, arith}
+use Rattle.std.proofs.Common.{◌≡◌, ◌≤◌, ℕ, List, Some, Result, Ok, Err, OnOk, IfOk, sym, ap, ◌∙◌, subst, arith}
 use Rattle.std.specs.Prelude.{min}
 use Rattle.ygg_value.specs.declared.operation.Op.TheVariants.{Or}
 use Rattle.ygg_sym_runs.specs.ygg_rules.declared.rule.RuleKind.{RuleKind}
@@ -9,10 +9,10 @@ use Rattle.ygg_sym_runs.specs.ygg_bank.Making.{made}
 use Rattle.ygg_sym_runs.specs.ygg_bank.Nodes.{CanBin, CanPick, Extends, HasWidth, node_width, widths_of}
 use Rattle.ygg_sym_runs.specs.ygg_bank.declared.node.Id.{Id}
 use Rattle.ygg_sym_runs.specs.ygg_bank.declared.node.Node.{Node}
-use Rattle.ygg_sym_runs.specs.ygg_bank.declared.node.Node.TheVariants.{Bin}
+use Rattle.ygg_sym_runs.specs.ygg_bank.declared.node.Node.TheVariants.{Bin, Input}
 use Rattle.ygg_sym_runs.specs.ygg_shape_words_proofs_Keeps.{picked_keeps}
 use Rattle.ygg_sym_runs.specs.ygg_shape_words.Picking.{picked}
-use Rattle.ygg_sym_runs.proofs.Singles.{single_less, single_stays}
+use Rattle.ygg_sym_runs.proofs.Singles.{input_single, single_less, single_stays}
 use Rattle.ygg_sym_runs.specs.Lower as lower
 use Rattle.ygg_sym_runs.specs.Lower.{SymMeaning, CanAsk, KeepsSingle, SingleFrom}
 use Rattle.ygg_sym_runs.specs.Runs.{SymQuestion}
@@ -60,6 +60,12 @@ pub either_single : {E : Type 0} (kinds : List RuleKind) (old new : List Node) (
     OnOk r (new ≡ (made kinds (Bin Or a b) old).nodes) → OnOk r (KeepsSingle old new)
 either_single kinds old new a b (Ok t) e = λ first h. subst (SingleFrom first) (sym e) (single_stays kinds first (Bin Or a b) old tt h)
 either_single kinds old new a b (Err x) e = tt
+
+-- an input of a single digit may be made
+pub digit_single : {E : Type 0} (kinds : List RuleKind) (number : ℕ) (old new : List Node) (r : Result Id E) →
+    OnOk r (new ≡ (made kinds (Input number 1) old).nodes) → OnOk r (KeepsSingle old new)
+digit_single kinds number old new (Ok t) e = λ first h. subst (SingleFrom first) (sym e) (input_single kinds first number old h)
+digit_single kinds number old new (Err x) e = tt
 
 -- one of two tests may be picked
 pub can_pick : (nodes : List Node) (t a b : Id) → HasWidth nodes t 1 → HasWidth nodes a 1 → HasWidth nodes b 1 → CanPick nodes t a b
