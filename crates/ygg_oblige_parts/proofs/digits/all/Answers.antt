@@ -1,4 +1,4 @@
-use Rattle.std.proofs.Common.{◌-◌, List, length, sym, ap, ◌∙◌, arith}
+use Rattle.std.proofs.Common.{◌≡◌, ◌-◌, List, length, drop, sym, ap, ◌∙◌, arith}
 use Rattle.std.proofs.lemmas.List.{drop_all}
 use Rattle.ygg_sym_spec.specs.ygg_bank_proofs_Widths.{extends_both}
 use Rattle.ygg_sym_spec.specs.ygg_bank.declared.node.Id.{Id}
@@ -40,3 +40,16 @@ loop-left-preserved g c =
       grows = extends_both old now c.join.new.bank c.loop-left.invariant.grows c.join.ensures.grows;
       bank = c.join.ensures.bank;
     }
+
+pub join-requires-clause-two : goal.join-requires-clause-two
+join-requires-clause-two g c = c.loop-left.invariant.wide
+
+pub returns-clause-nodes : goal.returns-clause-nodes
+returns-clause-nodes g c =
+    let none : c.loop-left.left ≡ 0 = omega (arith, c.loop-left-test.false) in
+    c.loop-left.invariant.nodes ∙ ap (λ n. (conjunction (g.B.Book.kinds c.args.book.now) (drop n c.args.digits.now) c.args.bank.now).nodes) none
+
+pub returns-clause-id : goal.returns-clause-id
+returns-clause-id g c =
+    let none : c.loop-left.left ≡ 0 = omega (arith, c.loop-left-test.false) in
+    c.loop-left.invariant.value ∙ ap (λ n. (conjunction (g.B.Book.kinds c.args.book.now) (drop n c.args.digits.now) c.args.bank.now).value) none

@@ -1,8 +1,10 @@
-use Rattle.std.proofs.Common.{◌+◌, List, All, drop, sym, subst}
-use Rattle.ygg_sym_spec.specs.ygg_bank_proofs_Widths.{extends_both}
+use Rattle.std.proofs.Common.{◌+◌, List, All, drop, sym, subst, arith}
+use Rattle.ygg_sym_spec.specs.ygg_bank_proofs_Widths.{extends_both, extends_self}
 use Rattle.ygg_sym_spec.specs.ygg_bank.declared.node.Id.{Id}
 use Rattle.ygg_sym_spec.specs.ygg_sym_runs.Seen.{known_of}
-use Rattle.ygg_sym_spec.proofs.Left.{Left}
+use Rattle.std.proofs.lemmas.List.{drop_all}
+use Rattle.ygg_syntax.specs.declared.tree.Expr.{Expr}
+use Rattle.ygg_sym_spec.proofs.Left.{Left, left_begun, left_value}
 use Rattle.ygg_oblige_parts.specs.Digits.{IsDigit}
 use Rattle.ygg_oblige_parts.specs.Formulas.{digits_made}
 use Rattle.ygg_oblige_parts.proofs.Tested.{digits_go, digits_more, test_next, tests_next}
@@ -37,3 +39,37 @@ returns-in_err-id-clause-grows g c = extends_both c.args.bank.now c.loop-e.bank 
 
 pub returns-in_err-push-clause-grows : goal.returns-in_err-push-clause-grows
 returns-in_err-push-clause-grows g c = extends_both c.args.bank.now c.loop-e.bank c.digit.new.bank c.loop-e.invariant.grows c.digit.ensures.grows
+
+pub loop-e-init : goal.loop-e-init
+loop-e-init g c =
+    let whole = digits_made (g.B.Book.kinds c.args.book.now) (known_of c.args.evaluator.now) c.args.es.now c.args.bank.now in
+    record {
+      went = subst (λ (z : List Id). Left whole whole z) (sym c.new-ids.ensures.items) (left_begun whole);
+      tests = c.requires.tests;
+      digits = subst (λ (z : List Id). All (IsDigit c.args.bank.now) z) (sym c.new-ids.ensures.items) (λ k d l. absurd (omega (arith, l)));
+      grows = extends_self c.args.bank.now;
+      bank = c.requires.bank;
+    }
+
+pub returns-clause-nodes : goal.returns-clause-nodes
+returns-clause-nodes g c =
+    let kinds = g.B.Book.kinds c.args.book.now in
+    let k = known_of c.args.evaluator.now in
+    let es = c.args.es.now in
+    let whole = digits_made kinds k es c.args.bank.now in
+    let ended = subst (λ (z : List Expr). Left whole (digits_made kinds k z c.loop-e.bank) c.loop-e.ids.items) (drop_all c.loop-e.e-index es c.loop-e-test.false)
+    c.loop-e.invariant.went in
+    ended.nodes
+
+pub returns-clause-form : goal.returns-clause-form
+returns-clause-form g c =
+    let kinds = g.B.Book.kinds c.args.book.now in
+    let k = known_of c.args.evaluator.now in
+    let es = c.args.es.now in
+    let whole = digits_made kinds k es c.args.bank.now in
+    left_value whole c.loop-e.ids.items c.loop-e.bank
+    (subst (λ (z : List Expr). Left whole (digits_made kinds k z c.loop-e.bank) c.loop-e.ids.items) (drop_all c.loop-e.e-index es c.loop-e-test.false)
+    c.loop-e.invariant.went)
+
+pub returns-clause-digits : goal.returns-clause-digits
+returns-clause-digits g c = c.loop-e.invariant.digits
