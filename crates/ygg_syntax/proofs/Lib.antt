@@ -3,3 +3,5 @@ pub mod Searched
 pub mod Tables
 pub mod Sames
 pub mod Paired
+pub mod Spent
+pub mod Weighed
