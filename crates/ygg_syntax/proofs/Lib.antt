@@ -5,3 +5,6 @@ pub mod Sames
 pub mod Paired
 pub mod Spent
 pub mod Weighed
+pub mod WeighedStatements
+pub mod Apart
+pub mod Copied

@@ -24,6 +24,10 @@ after_two l a b e f is = omega (arith, e, f, is)
 pub after_three : {s q r w : ℕ} (l a b c : ℕ) → s ≡ l - 1 - a → q ≡ s - b → r ≡ q - c → w ≡ 1 + a + b + c → r ≡ l - w
 after_three l a b c e f g is = omega (arith, e, f, g, is)
 
+-- two parts and no more
+pub both_taken : {s r : ℕ} (l a b : ℕ) → s ≡ l - a → r ≡ s - b → r ≡ l - (a + b)
+both_taken l a b e f = omega (arith, e, f)
+
 -- a part that takes one
 pub one_taken : {w : ℕ} (l : ℕ) → w ≡ 1 → l - 1 ≡ l - w
 one_taken l is = ap (λ n. l - n) (sym is)
