@@ -184,13 +184,12 @@ pub expressions-loop-e-init : goal.expressions-loop-e-init
 expressions-loop-e-init t c = record { same = refl; within = le_refl _; part = le_refl _ }
 
 pub expressions-expression-rest-requires : goal.expressions-expression-rest-requires
-expressions-expression-rest-requires t c =
-    (
-      falls_item _ _ c.decreases
+expressions-expression-rest-requires t c = (
+  falls_item _ _ c.decreases
       (item_within (expr_weight (known_weights c.args.known)) c.args.expressions.now c.loop-e.e-index c.e-item.result c.loop-e-test.true c.e-item.is
       c.loop-e.invariant.part),
-      le_trans c.loop-e.invariant.within c.requires,
-    )
+  le_trans c.loop-e.invariant.within c.requires,
+)
 
 pub expressions-loop-e-preserved : goal.expressions-loop-e-preserved
 expressions-loop-e-preserved t c = record {
@@ -212,11 +211,10 @@ pub definition-bounds-defs-place : goal.definition-bounds-defs-place
 definition-bounds-defs-place t c = c.in-Some.ensures.some.within
 
 pub definition-expression-requires : goal.definition-expression-requires
-definition-expression-requires t c =
-    (
-      falls_body _ _ c.decreases (named c.in-Defs.defs c.in-Some.place c.index-defs-place.result c.in-Defs.is c.in-Some.ensures.some),
-      c.requires,
-    )
+definition-expression-requires t c = (
+  falls_body _ _ c.decreases (named c.in-Defs.defs c.in-Some.place c.index-defs-place.result c.in-Defs.is c.in-Some.ensures.some),
+  c.requires,
+)
 
 pub definition-returns-in-Some : goal.definition-returns-in-Some
 definition-returns-in-Some t c =
