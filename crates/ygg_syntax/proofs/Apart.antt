@@ -96,8 +96,10 @@ apart b x is none = (
   λ yes. absurd (false≢true yes),
   λ same.
       let whole = same_opened x (out-Expr b) is (sym (roll-out-Expr b)) in
-      let sorts : sort x ≡ sort (out-Expr b) = sym (sort_stays x) ∙ ap sort (whole.1 same) ∙ sort_stays (out-Expr b) in
-      absurd (has_one (out-Expr b) (subst (λ s. IsNot s (roll-Expr (out-Expr b))) sorts (subst (λ e. IsNot (sort x) e) (sym (roll-out-Expr b)) none))),
+      let sorts : sort x ≡ sort (out-Expr b) =
+      sym (sort_stays x) ∙ ap sort (whole.1 same) ∙ sort_stays (out-Expr b) in
+      let is_not = subst (λ e. IsNot (sort x) e) (sym (roll-out-Expr b)) none in
+      absurd (has_one (out-Expr b) (subst (λ s. IsNot s (roll-Expr (out-Expr b))) sorts is_not)),
 )
 
 -- the variant of a statement
@@ -138,11 +140,14 @@ statement_has_one (Stmt-F.If a f g) none = none a f g (stmt.rolls-If a f g)
 statement_has_one (Stmt-F.For x w n f) none = none x w n f (stmt.rolls-For x w n f)
 statement_has_one (Stmt-F.Call f es) none = none f es (stmt.rolls-Call f es)
 
-pub statement_apart : {a : Stmt} (b : Stmt) (x : Stmt-F Stmt Block) → a ≡ roll-Stmt x → IsNotStatement (statement_sort x) b → (false ≡ true) ↔ (bare_statement a ≡ bare_statement b)
+pub statement_apart : {a : Stmt} (b : Stmt) (x : Stmt-F Stmt Block) → a ≡ roll-Stmt x → IsNotStatement (statement_sort x) b
+    → (false ≡ true) ↔ (bare_statement a ≡ bare_statement b)
 statement_apart b x is none = (
   λ yes. absurd (false≢true yes),
   λ same.
       let whole = same_opened_statement x (out-Stmt b) is (sym (roll-out-Stmt b)) in
-      let sorts : statement_sort x ≡ statement_sort (out-Stmt b) = sym (statement_sort_stays x) ∙ ap statement_sort (whole.1 same) ∙ statement_sort_stays (out-Stmt b) in
-      absurd (statement_has_one (out-Stmt b) (subst (λ s. IsNotStatement s (roll-Stmt (out-Stmt b))) sorts (subst (λ e. IsNotStatement (statement_sort x) e) (sym (roll-out-Stmt b)) none))),
+      let sorts : statement_sort x ≡ statement_sort (out-Stmt b) =
+      sym (statement_sort_stays x) ∙ ap statement_sort (whole.1 same) ∙ statement_sort_stays (out-Stmt b) in
+      let is_not = subst (λ e. IsNotStatement (statement_sort x) e) (sym (roll-out-Stmt b)) none in
+      absurd (statement_has_one (out-Stmt b) (subst (λ s. IsNotStatement s (roll-Stmt (out-Stmt b))) sorts is_not)),
 )

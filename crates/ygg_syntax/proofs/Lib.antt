@@ -8,3 +8,4 @@ pub mod Weighed
 pub mod WeighedStatements
 pub mod Apart
 pub mod Copied
+pub mod Counted

@@ -183,7 +183,8 @@ pub same_assign : {a b : Stmt} (x y : Name) (is js : List Index) (d e : Source) 
     → ks ≡ is → ls ≡ js
     → ((bare_name x ≡ bare_name y) × (map bare_index ks ≡ map bare_index ls) × (bare_source d ≡ bare_source e)) ↔ (bare_statement a ≡ bare_statement b)
 same_assign x y is js d e ea eb left right =
-    let whole = same_opened_statement (Stmt-F.Assign x is d) (Stmt-F.Assign y js e) (ea ∙ sym (stmt.rolls-Assign x is d)) (eb ∙ sym (stmt.rolls-Assign y js e)) in
+    let whole = same_opened_statement (Stmt-F.Assign x is d) (Stmt-F.Assign y js e) (ea ∙ sym (stmt.rolls-Assign x is d))
+    (eb ∙ sym (stmt.rolls-Assign y js e)) in
     (λ parts. whole.0 (cc), λ same. let opened_same = whole.1 same in (cc, cc, cc))
 
 -- calls are the same where the names and the arguments are
