@@ -3,3 +3,9 @@ pub mod Searched
 pub mod Tables
 pub mod Sames
 pub mod Paired
+pub mod Spent
+pub mod Weighed
+pub mod WeighedStatements
+pub mod Apart
+pub mod Copied
+pub mod Counted

@@ -10,11 +10,24 @@ use Rattle.ygg_syntax.specs.declared.tree.Expr.TheVariants as expr
 use Rattle.ygg_syntax.specs.declared.tree.Expr.TheOpen.{Expr-F}
 use Rattle.ygg_syntax.specs.declared.tree.Expr.TheFolds.{fold-roll-Expr}
 use Rattle.ygg_syntax.specs.declared.tree.Block.{Block, out-Block, roll-out-Block, fold-Block}
+use Rattle.ygg_syntax.specs.declared.tree.Index.{Index}
+use Rattle.ygg_syntax.specs.declared.tree.Source.{Source}
 use Rattle.ygg_syntax.specs.declared.tree.Stmt.{Stmt, roll-Stmt, map-Stmt, out-Stmt, out-roll-Stmt}
 use Rattle.ygg_syntax.specs.declared.tree.Stmt.TheOpen.{Stmt-F}
 use Rattle.ygg_syntax.specs.declared.tree.Stmt.TheVariants as stmt
 use Rattle.ygg_syntax.specs.declared.tree.Stmt.TheFolds.{fold-roll-Stmt, fold-roll-Block}
-use Rattle.ygg_syntax.specs.Bare.{bare_name, bare_number, node_bare, bare, node_bare_statement, node_bare_block, bare_statement, bare_block}
+use Rattle.ygg_syntax.specs.Bare.{
+  bare_name,
+  bare_number,
+  node_bare,
+  bare,
+  bare_source,
+  bare_index,
+  node_bare_statement,
+  node_bare_block,
+  bare_statement,
+  bare_block,
+}
 
 -- an opened expression without its places
 abbrev pub opened : Expr-F Expr → Expr-F Expr
@@ -26,6 +39,24 @@ same_opened {a} {b} x y ea eb =
     let left : bare a ≡ roll-Expr (opened x) = ap bare ea ∙ fold-roll-Expr Expr (λ e. roll-Expr (node_bare e)) x in
     let right : bare b ≡ roll-Expr (opened y) = ap bare eb ∙ fold-roll-Expr Expr (λ e. roll-Expr (node_bare e)) y in
     (λ same. left ∙ ap roll-Expr same ∙ sym right, λ same. sym (out-roll-Expr (opened x)) ∙ ap out-Expr (sym left ∙ same ∙ right) ∙ out-roll-Expr (opened y))
+
+-- constants are the same where the numbers are
+pub same_constant : {a b : Expr} (v w u x : Numeral) → a ≡ expr.Constant v w → b ≡ expr.Constant u x
+    → ((bare_number v ≡ bare_number u) × (bare_number w ≡ bare_number x)) ↔ (bare a ≡ bare b)
+same_constant v w u x ea eb =
+    let whole = same_opened (Expr-F.Constant v w) (Expr-F.Constant u x) (ea ∙ sym (expr.rolls-Constant v w)) (eb ∙ sym (expr.rolls-Constant u x)) in
+    (λ parts. whole.0 (cc), λ same. let opened_same = whole.1 same in (cc, cc))
+
+-- variables are the same where the names are
+pub same_low : {a b : Expr} (f f' : Place) (x y : Name) → a ≡ expr.Low f x → b ≡ expr.Low f' y → (bare_name x ≡ bare_name y) ↔ (bare a ≡ bare b)
+same_low f f' x y ea eb =
+    let whole = same_opened (Expr-F.Low f x) (Expr-F.Low f' y) (ea ∙ sym (expr.rolls-Low f x)) (eb ∙ sym (expr.rolls-Low f' y)) in
+    (λ part. whole.0 (cc), λ same. let opened_same = whole.1 same in cc)
+
+pub same_variable : {a b : Expr} (x y : Name) → a ≡ expr.Variable x → b ≡ expr.Variable y → (bare_name x ≡ bare_name y) ↔ (bare a ≡ bare b)
+same_variable x y ea eb =
+    let whole = same_opened (Expr-F.Variable x) (Expr-F.Variable y) (ea ∙ sym (expr.rolls-Variable x)) (eb ∙ sym (expr.rolls-Variable y)) in
+    (λ part. whole.0 (cc), λ same. let opened_same = whole.1 same in cc)
 
 -- definitions at arguments are the same where the names and the arguments are
 pub same_apply : {a b : Expr} (f g : Name) (es ds : List Expr) → a ≡ expr.Apply f es → b ≡ expr.Apply g ds
@@ -97,7 +128,7 @@ same_quantified f f' q q' x x' w w' n n' d e ea eb left right =
     (λ parts. whole.0 (cc), λ same. let opened_same = whole.1 same in ((cc, (cc, (cc, cc))), cc))
 
 -- a block without its places, as the fold makes it inside a statement
-inside : Block → Block
+pub inside : Block → Block
 inside = fold-Block Stmt Block (λ s. roll-Stmt (node_bare_statement s)) node_bare_block
 
 -- inside a statement a block is the same as alone
@@ -106,11 +137,11 @@ unfolding inside
 inside_bare b = ap inside (sym (roll-out-Block b)) ∙ fold-roll-Block Stmt Block (λ s. roll-Stmt (node_bare_statement s)) node_bare_block (out-Block b)
 
 -- an opened statement without its places
-abbrev opened_statement : Stmt-F Stmt Block → Stmt-F Stmt Block
+abbrev pub opened_statement : Stmt-F Stmt Block → Stmt-F Stmt Block
 opened_statement s = node_bare_statement (map-Stmt Stmt Block Stmt Block bare_statement inside s)
 
 -- statements are the same where they are the same opened
-same_opened_statement : {a b : Stmt} (x y : Stmt-F Stmt Block) → a ≡ roll-Stmt x → b ≡ roll-Stmt y → (opened_statement x ≡ opened_statement y)
+pub same_opened_statement : {a b : Stmt} (x y : Stmt-F Stmt Block) → a ≡ roll-Stmt x → b ≡ roll-Stmt y → (opened_statement x ≡ opened_statement y)
     ↔ (bare_statement a ≡ bare_statement b)
 unfolding inside
 same_opened_statement {a} {b} x y ea eb =
@@ -139,3 +170,26 @@ same_for x y w v n m f g ea eb =
     let whole = same_opened_statement (Stmt-F.For x w n f) (Stmt-F.For y v m g) (ea ∙ sym (stmt.rolls-For x w n f)) (eb ∙ sym (stmt.rolls-For y v m g)) in
     let in_f = inside_bare f in let in_g = inside_bare g in
     (λ parts. whole.0 (cc), λ same. let opened_same = whole.1 same in ((cc, (cc, cc)), cc))
+
+-- two `let` are the same where the names and the right sides are
+pub same_let : {a b : Stmt} (x y : Name) (d e : Source) → a ≡ stmt.Let x d → b ≡ stmt.Let y e
+    → ((bare_name x ≡ bare_name y) × (bare_source d ≡ bare_source e)) ↔ (bare_statement a ≡ bare_statement b)
+same_let x y d e ea eb =
+    let whole = same_opened_statement (Stmt-F.Let x d) (Stmt-F.Let y e) (ea ∙ sym (stmt.rolls-Let x d)) (eb ∙ sym (stmt.rolls-Let y e)) in
+    (λ parts. whole.0 (cc), λ same. let opened_same = whole.1 same in (cc, cc))
+
+-- assignments are the same where the names, the indices and the right sides are
+pub same_assign : {a b : Stmt} (x y : Name) (is js : List Index) (d e : Source) {ks ls : List Index} → a ≡ stmt.Assign x is d → b ≡ stmt.Assign y js e
+    → ks ≡ is → ls ≡ js
+    → ((bare_name x ≡ bare_name y) × (map bare_index ks ≡ map bare_index ls) × (bare_source d ≡ bare_source e)) ↔ (bare_statement a ≡ bare_statement b)
+same_assign x y is js d e ea eb left right =
+    let whole = same_opened_statement (Stmt-F.Assign x is d) (Stmt-F.Assign y js e) (ea ∙ sym (stmt.rolls-Assign x is d))
+    (eb ∙ sym (stmt.rolls-Assign y js e)) in
+    (λ parts. whole.0 (cc), λ same. let opened_same = whole.1 same in (cc, cc, cc))
+
+-- calls are the same where the names and the arguments are
+pub same_call : {a b : Stmt} (f g : Name) (es ds : List Expr) → a ≡ stmt.Call f es → b ≡ stmt.Call g ds
+    → ((bare_name f ≡ bare_name g) × (map bare es ≡ map bare ds)) ↔ (bare_statement a ≡ bare_statement b)
+same_call f g es ds ea eb =
+    let whole = same_opened_statement (Stmt-F.Call f es) (Stmt-F.Call g ds) (ea ∙ sym (stmt.rolls-Call f es)) (eb ∙ sym (stmt.rolls-Call g ds)) in
+    (λ parts. whole.0 (cc), λ same. let opened_same = whole.1 same in (cc, cc))
