@@ -5,7 +5,9 @@ use Rattle.ygg_value.specs.Number.{Digits, Grid}
 use Rattle.ygg_value.specs.Values.{table_read, table_write}
 use Rattle.ygg_value.proofs.Places.{table_read-get_or, table_read-write_same, table_read-write_other}
 use Rattle.ygg_base.specs.declared.geometry.Geometry.{Geometry}
-use Rattle.ygg_disk.specs.Size.{HasSize, IsRowOf}
+use Rattle.ygg_value.specs.declared.shape.Shape.TheVariants as shape
+use Rattle.ygg_disk.specs.Rows.{IsDiskRow}
+use Rattle.ygg_disk.specs.Size.{row_shape, HasSize, IsRowOf}
 
 -- the rows before a place are copied
 pub record Copied (g : Geometry) (from into : Grid) (spare : Digits) (place : ℕ) : Type 0 where
@@ -68,3 +70,17 @@ copied_more g from into into' spare spare' place size c l read long write = subs
 
   below : (k : ℕ) → k < place → table_read (table_write into place spare') k ≡ table_read from k
   below k h = let apart : k ≢ place = omega arith in table_read-write_other into place k spare' apart ∙ c.done k h
+
+-- a row of the shape of a table's rows is one of its rows
+pub row_of : (t : Grid) (r : Digits) → shape.Row (length r.words) r.width ≡ row_shape t → IsRowOf t r
+row_of t r e = record { width = cc; words = cc }
+
+pub row_of_same : (t t' : Grid) (r : Digits) → IsRowOf t r → row_shape t' ≡ row_shape t → IsRowOf t' r
+row_of_same t t' r h e = let p : t'.width ≡ t.width = cc in let q : t'.words ≡ t.words = cc in record { width = h.width ∙ sym p; words = h.words ∙ sym q }
+
+-- a copy of such a row has the size of the disk's rows
+pub disk_row : (g : Geometry) (t : Grid) (r r' : Digits) → HasSize g t → IsRowOf t r → r' ≡ r → IsDiskRow g r'
+disk_row g t r r' size h e = record {
+  width = ap (λ (x : Digits). x.width) e ∙ h.width ∙ size.width;
+  words = ap (λ (x : Digits). length x.words) e ∙ h.words ∙ size.words;
+}

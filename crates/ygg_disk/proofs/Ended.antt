@@ -1,13 +1,14 @@
 -- How a call on a disk in memory ends: whole, cut by power, stopped before it began, or without memory.
-use Rattle.std.proofs.Common.{◌≡◌, ◌↔◌, Bool, true, false, true≢false, List, Option, Some, None, Result, Ok, Err, refl, sym, ap, subst}
+use Rattle.std.proofs.Common.{◌≡◌, ◌↔◌, ◌⊎◌, inl, inr, Bool, true, false, true≢false, List, Option, Some, Result, Ok, Err, refl, sym, ap, subst}
 use Rattle.std.specs.Prelude.{IsSomeAnd}
 use Rattle.std.specs.Result.{IsErr}
 use Rattle.std.proofs.lemmas.Result.{IfOk-from_err}
 use Rattle.ygg_base.specs.declared.geometry.DiskKind.{DiskKind}
 use Rattle.ygg_list.specs.declared.memory.NoMemory.{NoMemory}
+use Rattle.ygg_value.specs.declared.row.Value.{Value}
 use Rattle.ygg_disk.specs.Disk.{Call, Reply}
 use Rattle.ygg_disk.specs.Fate.{IsFate, Begins}
-use Rattle.ygg_disk.specs.Ground.{Meaning, Whole, Cut, Stopped, Starved, Down, Turns, IsDownWhereNamed}
+use Rattle.ygg_disk.specs.Ground.{Meaning, Whole, Cut, Stopped, Down, Turns, IsDownWhereNamed}
 use Rattle.ygg_disk.specs.Kinds.{model_of}
 use Rattle.ygg_disk.specs.Marked.{MarkedCache, marked_calls, marked_falls, marked_loses}
 use Rattle.ygg_disk.specs.Meanings.{disk_meaning, pending_meaning}
@@ -28,21 +29,37 @@ begins_as call whole within p p' f g e b = subst (λ (x : Fate). Begins call who
 pub done_unnamed : (p : Power) → IsFate p fate.Whole → (turn.Done ≡ turn.Down) ↔ IsNamed p
 done_unnamed p f = (λ e. absurd (cc), λ n. absurd (f n))
 
+pub answer_unnamed : (p : Power) (v : Value) → IsFate p fate.Whole → (turn.Answer v ≡ turn.Down) ↔ IsNamed p
+answer_unnamed p v f = (λ e. absurd (cc), λ n. absurd (f n))
+
 pub within_named : (p : Power) → IsFate p fate.Within → (turn.Down ≡ turn.Down) ↔ IsNamed p
 within_named p f = (λ e. subst (λ (o : Option Fuse). IsSomeAnd o (λ x. x.call ≡ p.passed)) (sym f) refl, λ n. refl)
 
 pub before_named : (p : Power) → IsFate p fate.Before → (turn.Down ≡ turn.Down) ↔ IsNamed p
 before_named p f = (λ e. subst (λ (o : Option Fuse). IsSomeAnd o (λ x. x.call ≡ p.passed)) (sym f) refl, λ n. refl)
 
+pub either_named : (call : Call) (whole within : List Bool) (p p' : Power) (f : Fate) → (f ≡ fate.Within) ⊎ (f ≡ fate.Before) →
+    Begins call whole within p p' (Ok f) → (turn.Down ≡ turn.Down) ↔ IsNamed p
+either_named call whole within p p' f (inl e) b = within_named p (begins_as call whole within p p' f fate.Within e b).0
+either_named call whole within p p' f (inr e) b = before_named p (begins_as call whole within p p' f fate.Before e b).0
+
 pub starved_named : (p : Power) (r : Result Turn NoMemory) → IsErr r → IsDownWhereNamed p r
 starved_named p r e = IfOk-from_err r (λ t. (t ≡ turn.Down) ↔ IsNamed p) e
 
 module _ {S : Type 0} (G : Meaning S) (call : Call) (before after : S) (p p' : Power) where
   pub down_within : IsFate p fate.Within → Cut G call before after p p' → Down G call before after p p'
-  down_within f = subst (λ (o : Option Fuse). Cut G call before after (record p { fuse = o }) p' → Down G call before after (record p { fuse = o }) p') (sym f) (λ x. x)
+  down_within f =
+      subst (λ (o : Option Fuse). Cut G call before after (record p { fuse = o }) p' → Down G call before after (record p { fuse = o }) p') (sym f) (λ x. x)
 
   pub down_before : IsFate p fate.Before → Stopped G before after p p' → Down G call before after p p'
-  down_before f = subst (λ (o : Option Fuse). Stopped G before after (record p { fuse = o }) p' → Down G call before after (record p { fuse = o }) p') (sym f) (λ x. x)
+  down_before f =
+      subst (λ (o : Option Fuse). Stopped G before after (record p { fuse = o }) p' → Down G call before after (record p { fuse = o }) p') (sym f) (λ x. x)
+
+  -- one of the two, where a `match` has them in one arm
+  pub down_either : (whole within : List Bool) (f : Fate) → (f ≡ fate.Within) ⊎ (f ≡ fate.Before) → Begins call whole within p p' (Ok f) →
+      (Begun true true call within p p' → Cut G call before after p p') → (p' ≡ p → Stopped G before after p p') → Down G call before after p p'
+  down_either whole within f (inl e) b cut stopped = let x = begins_as call whole within p p' f fate.Within e b in down_within x.0 (cut x.1)
+  down_either whole within f (inr e) b cut stopped = let x = begins_as call whole within p p' f fate.Before e b in down_before x.0 (stopped x.1)
 
   pub starved : (r : Result Turn NoMemory) → IsErr r → G.Breaks before call after → p' ≡ p → Turns G call before after p p' r
   starved (Ok t) e b l = absurd (true≢false (sym e))

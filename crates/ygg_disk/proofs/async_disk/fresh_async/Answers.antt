@@ -2,7 +2,6 @@ use Rattle.std.proofs.Common.{ap, ◌∙◌}
 use Rattle.std.proofs.lemmas.Result.{IfOk-from_err}
 use Rattle.ygg_value.specs.Number.{Grid}
 use Rattle.ygg_disk.proofs.Copying.{zeros_fit}
-use Rattle.ygg_disk.specs.Disk.{Tables}
 use Rattle.ygg_disk.specs.Size.{zeros_of}
 use Rattle.ygg_disk.proofs.async_disk.fresh_async.Goals as goal
 
