@@ -1,16 +1,20 @@
--- What was made step by step is a side, and is whether a sum is 0.
-use Rattle.std.proofs.Common.{◌≡◌, ℕ, Bool, true, false, List, ap, ◌∙◌}
+-- What was made step by step is a side, and is whether a sum is 0, split on a test or not.
+use Rattle.std.proofs.Common.{◌≡◌, ℕ, ◌-◌, Bool, true, false, Option, Some, None, List, [], ◌∷◌, ◌++◌, Result, Ok, Err, IfOk, OnOk, sym, ap, ◌∙◌, subst}
 use Rattle.ygg_value.specs.Words.{word}
 use Rattle.ygg_value.specs.declared.operation.Op.TheVariants.{Add}
 use Rattle.ygg_shape_words.specs.ygg_rules.declared.rule.RuleKind.{RuleKind}
-use Rattle.ygg_shape_words.specs.ygg_bank.Makes.{Make, and_make}
+use Rattle.ygg_shape_words.specs.ygg_bank.Makes.{Make, Out, pure, and_make}
 use Rattle.ygg_shape_words.specs.ygg_bank.Making.{made}
 use Rattle.ygg_shape_words.specs.ygg_bank.declared.node.Id.{Id}
 use Rattle.ygg_shape_words.specs.ygg_bank.declared.node.Node.{Node}
 use Rattle.ygg_shape_words.specs.ygg_bank.declared.node.Node.TheVariants.{Const, Bin}
+use Rattle.ygg_shape_words.specs.Picking.{picked}
 use Rattle.ygg_shape_words.specs.Same.{same_words}
 use Rattle.ygg_shape_sums.proofs.Steps.{goes}
+use Rattle.ygg_shape_sums.specs.Equates.{Step, Found, IsFound, found, split_as}
 use Rattle.ygg_shape_sums.specs.Parts.{Sum}
+use Rattle.ygg_shape_sums.specs.Readings.{fact}
+use Rattle.ygg_shape_sums.specs.declared.reading.Fact.{Fact}
 use Rattle.ygg_shape_sums.specs.Sides.{share, all_more, side, vanishes}
 use Rattle.ygg_shape_sums.specs.declared.parts.Summand.{Summand}
 
@@ -42,3 +46,30 @@ module _ (kinds : List RuleKind) (w : ℕ) (s : Sum) (old : List Node) where
         ∙ goes (all_more kinds w second parts zero) (with_rest (share w second s.number)) first next all x y
         ∙ ap (λ ps. with_all ps zero first) e
         ∙ goes (made kinds (Const (word w 0))) (with_all s.parts) old first zero p q
+
+module _ {E : Type 0} (kinds : List RuleKind) (w : ℕ) (next : Step) (facts : List Fact) (s : Sum) (o : Option Id) (old new : List Node) where
+  -- no split
+  pub split_none : (left : ℕ) (r : Result Id E) → o ≡ None → OnOk r (new ≡ (vanishes kinds w s old).nodes) →
+      IfOk r (λ id. id ≡ (vanishes kinds w s old).value) →
+      IfOk r (λ id. IsFound (split_as kinds w next left facts s o) old new id left)
+  split_none left (Ok id) n e f =
+      subst (λ (z : Option Id). IsFound (split_as kinds w next left facts s z) old new id left) (sym n) (record { nodes = e; value = ap (found left) f })
+  split_none left (Err x) n e f = tt
+
+  -- both halves, and the pick between them
+  pub split_some : (left less l m : ℕ) (t one two : Id) (first second : List Node) (r : Result Id E) → o ≡ Some t → less ≡ left - 1 →
+      IsFound (next less (facts ++ fact t true ∷ []) s) old first one l → IsFound (next l (facts ++ fact t false ∷ []) s) first second two m →
+      OnOk r (new ≡ (picked kinds t one two second).nodes) → IfOk r (λ id. id ≡ (picked kinds t one two second).value) →
+      IfOk r (λ id. IsFound (split_as kinds w next left facts s o) old new id m)
+  split_some left less l m t one two first second (Err x) n d p q e f = tt
+  split_some left less l m t one two first second (Ok id) n d p q e f =
+      let pick : Found → Found → Make Found = λ a b. and_make (picked kinds t a.term b.term) (λ r. pure (found b.left r)) in
+      let half : ℕ → Bool → Make Found = λ k digit. next k (facts ++ fact t digit ∷ []) s in
+      let whole : pick (found l one) (found m two) second ≡ split_as kinds w next left facts s (Some t) old =
+      goes (half l false) (pick (found l one)) first second (found m two) q.nodes q.value
+      ∙ goes (half less true) (λ a. and_make (half a.left false) (pick a)) old first (found l one) p.nodes p.value
+      ∙ ap (λ k. and_make (half k true) (λ a. and_make (half a.left false) (pick a)) old) d in
+      subst (λ (z : Option Id). IsFound (split_as kinds w next left facts s z) old new id m) (sym n) (record {
+        nodes = e ∙ ap (λ (x : Out Found). x.nodes) whole;
+        value = ap (found m) f ∙ ap (λ (x : Out Found). x.value) whole;
+      })

@@ -1,3 +1,4 @@
+use Rattle.ygg_shape_sums.proofs.MadeSides.{split_none, split_some}
 use Rattle.std.proofs.lemmas.Result.{IfOk-from_err}
 use Rattle.std.proofs.Common.{rules, ◌<◌, IfOk, List, sym, ap, ◌∙◌, subst, arith}
 use Rattle.ygg_shape_words.specs.ygg_bank_proofs_Widths.{wider, width_is, extends_self, extends_both}
@@ -214,3 +215,21 @@ vanishes_where-returns-clause-grows g t c = c.vanishes_within.ensures.grows
 
 pub vanishes_where-returns-clause-bank : goal.vanishes_where-returns-clause-bank
 vanishes_where-returns-clause-bank g t c = c.vanishes_within.ensures.bank
+
+pub vanishes_split-returns-in-None-clause-made : goal.vanishes_split-returns-in-None-clause-made
+vanishes_split-returns-in-None-clause-made g t c =
+    split_none (g.B.Book.kinds c.args.book.now) c.args.width (vanishes_within (g.B.Book.kinds c.args.book.now) c.args.width c.args.depth) c.args.facts.now
+    c.args.sum.now
+    (split_of c.args.bank.now c.args.left.now (c.args.sum.now).parts) c.args.bank.now c.vanishes.new.bank c.args.left.now c.vanishes.result
+    (sym (sym c.in-None.is ∙ c.in_ok-split_of.ensures ∙ ap (λ (ps : List Summand). split_of c.args.bank.now c.args.left.now ps) c.parts.ensures))
+    c.vanishes.ensures.nodes c.vanishes.ensures.form
+
+pub vanishes_split-returns-in_ok-no-in-Some-clause-made : goal.vanishes_split-returns-in_ok-no-in-Some-clause-made
+vanishes_split-returns-in_ok-no-in-Some-clause-made g t c =
+    split_some (g.B.Book.kinds c.args.book.now) c.args.width (vanishes_within (g.B.Book.kinds c.args.book.now) c.args.width c.args.depth) c.args.facts.now
+    c.args.sum.now
+    (split_of c.args.bank.now c.args.left.now (c.args.sum.now).parts) c.args.bank.now c.pick.new.bank c.args.left.now _ c.vanishes_where.new.left
+    c.vanishes_where-in-Some.new.left c.in-Some.test c.in_ok-yes-in-Some.yes c.in_ok-no-in-Some.no c.vanishes_where.new.bank
+    c.vanishes_where-in-Some.new.bank c.pick.result
+    (sym (sym c.in-Some.is ∙ c.in_ok-split_of.ensures ∙ ap (λ (ps : List Summand). split_of c.args.bank.now c.args.left.now ps) c.parts.ensures))
+    c.saturating_sub.ensures c.in_ok-yes-in-Some.ensures.made c.in_ok-no-in-Some.ensures.made c.pick.ensures.nodes c.pick.ensures.form
