@@ -11,5 +11,6 @@ pub mod Sides
 pub mod Cancels
 pub mod Equates
 pub mod Steps
+pub mod MadeSides
 pub mod Walks
 pub mod PlainWords

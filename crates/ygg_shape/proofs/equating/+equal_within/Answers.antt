@@ -1,5 +1,6 @@
+use Rattle.std.proofs.lemmas.Result.{IfOk-from_err}
 use Rattle.std.proofs.Common.{rules, ◌<◌, Some, true, false, sym, ap, ◌∙◌, subst, arith}
-use Rattle.ygg_shape_sums.specs.ygg_bank_proofs_Widths.{wider, width_is, extends_both}
+use Rattle.ygg_shape_sums.specs.ygg_bank_proofs_Widths.{wider, width_is, extends_self, extends_both}
 use Rattle.ygg_shape_sums.specs.ygg_shape_words_proofs_Fit.{can_pick}
 use Rattle.ygg_shape_cells.proofs.Fit.{pairs_wider, sides_fit, without_fit, shared_digit}
 use Rattle.ygg_shape.proofs.EquateSteps.{within_zero, within_whole, within_split}
@@ -128,3 +129,157 @@ pub returns-in_ok-answer-in-Some-clause-grows : goal.returns-in_ok-answer-in-Som
 returns-in_ok-answer-in-Some-clause-grows g t c =
     extends_both _ _ _ (extends_both _ _ _ (extends_both _ _ _ (extends_both _ _ _ c.equal_within.ensures.grows c.equal_within-in-Some.ensures.grows)
     c.pick.ensures.grows) c.equal_within-in-Some-2.ensures.grows) c.both.ensures.grows
+
+pub returns-in_err-answer-clause-made : goal.returns-in_err-answer-clause-made
+returns-in_err-answer-clause-made g t c = IfOk-from_err c.from_residual.result _ c.from_residual.ensures.0
+
+pub returns-in_err-answer-clause-width : goal.returns-in_err-answer-clause-width
+returns-in_err-answer-clause-width g t c = IfOk-from_err c.from_residual.result _ c.from_residual.ensures.0
+
+pub returns-in_err-answer-clause-grows : goal.returns-in_err-answer-clause-grows
+returns-in_err-answer-clause-grows g t c = c.one_by_one.ensures.grows
+
+pub returns-in_err-answer-clause-bank : goal.returns-in_err-answer-clause-bank
+returns-in_err-answer-clause-bank g t c = c.one_by_one.ensures.bank
+
+pub returns-in_err-answer-in-None-clause-made : goal.returns-in_err-answer-in-None-clause-made
+returns-in_err-answer-in-None-clause-made g t c = IfOk-from_err c.from_residual-in_err-answer-in-None.result _ c.from_residual-in_err-answer-in-None.ensures.0
+
+pub returns-in_err-answer-in-None-clause-width : goal.returns-in_err-answer-in-None-clause-width
+returns-in_err-answer-in-None-clause-width g t c = IfOk-from_err c.from_residual-in_err-answer-in-None.result _ c.from_residual-in_err-answer-in-None.ensures.0
+
+pub returns-in_err-answer-in-None-clause-grows : goal.returns-in_err-answer-in-None-clause-grows
+returns-in_err-answer-in-None-clause-grows g t c = c.one_by_one-in-None.ensures.grows
+
+pub returns-in_err-answer-in-None-clause-bank : goal.returns-in_err-answer-in-None-clause-bank
+returns-in_err-answer-in-None-clause-bank g t c = c.one_by_one-in-None.ensures.bank
+
+pub returns-in_err-yes_sides-in-Some-clause-made : goal.returns-in_err-yes_sides-in-Some-clause-made
+returns-in_err-yes_sides-in-Some-clause-made g t c =
+    IfOk-from_err c.from_residual-in_err-yes_sides-in-Some.result _ c.from_residual-in_err-yes_sides-in-Some.ensures.0
+
+pub returns-in_err-yes_sides-in-Some-clause-width : goal.returns-in_err-yes_sides-in-Some-clause-width
+returns-in_err-yes_sides-in-Some-clause-width g t c =
+    IfOk-from_err c.from_residual-in_err-yes_sides-in-Some.result _ c.from_residual-in_err-yes_sides-in-Some.ensures.0
+
+pub returns-in_err-yes_sides-in-Some-clause-grows : goal.returns-in_err-yes_sides-in-Some-clause-grows
+returns-in_err-yes_sides-in-Some-clause-grows g t c = extends_self c.args.bank.now
+
+pub returns-in_err-yes_sides-in-Some-clause-bank : goal.returns-in_err-yes_sides-in-Some-clause-bank
+returns-in_err-yes_sides-in-Some-clause-bank g t c = c.requires.bank
+
+pub returns-in_err-no_sides-in-Some-clause-made : goal.returns-in_err-no_sides-in-Some-clause-made
+returns-in_err-no_sides-in-Some-clause-made g t c =
+    IfOk-from_err c.from_residual-in_err-no_sides-in-Some.result _ c.from_residual-in_err-no_sides-in-Some.ensures.0
+
+pub returns-in_err-no_sides-in-Some-clause-width : goal.returns-in_err-no_sides-in-Some-clause-width
+returns-in_err-no_sides-in-Some-clause-width g t c =
+    IfOk-from_err c.from_residual-in_err-no_sides-in-Some.result _ c.from_residual-in_err-no_sides-in-Some.ensures.0
+
+pub returns-in_err-no_sides-in-Some-clause-grows : goal.returns-in_err-no_sides-in-Some-clause-grows
+returns-in_err-no_sides-in-Some-clause-grows g t c = extends_self c.args.bank.now
+
+pub returns-in_err-no_sides-in-Some-clause-bank : goal.returns-in_err-no_sides-in-Some-clause-bank
+returns-in_err-no_sides-in-Some-clause-bank g t c = c.requires.bank
+
+pub returns-in_err-others-in-Some-clause-made : goal.returns-in_err-others-in-Some-clause-made
+returns-in_err-others-in-Some-clause-made g t c = IfOk-from_err c.from_residual-in_err-others-in-Some.result _ c.from_residual-in_err-others-in-Some.ensures.0
+
+pub returns-in_err-others-in-Some-clause-width : goal.returns-in_err-others-in-Some-clause-width
+returns-in_err-others-in-Some-clause-width g t c = IfOk-from_err c.from_residual-in_err-others-in-Some.result _ c.from_residual-in_err-others-in-Some.ensures.0
+
+pub returns-in_err-others-in-Some-clause-grows : goal.returns-in_err-others-in-Some-clause-grows
+returns-in_err-others-in-Some-clause-grows g t c = extends_self c.args.bank.now
+
+pub returns-in_err-others-in-Some-clause-bank : goal.returns-in_err-others-in-Some-clause-bank
+returns-in_err-others-in-Some-clause-bank g t c = c.requires.bank
+
+pub returns-in_err-yes-in-Some-clause-made : goal.returns-in_err-yes-in-Some-clause-made
+returns-in_err-yes-in-Some-clause-made g t c = IfOk-from_err c.from_residual-in_err-yes-in-Some.result _ c.from_residual-in_err-yes-in-Some.ensures.0
+
+pub returns-in_err-yes-in-Some-clause-width : goal.returns-in_err-yes-in-Some-clause-width
+returns-in_err-yes-in-Some-clause-width g t c = IfOk-from_err c.from_residual-in_err-yes-in-Some.result _ c.from_residual-in_err-yes-in-Some.ensures.0
+
+pub returns-in_err-yes-in-Some-clause-grows : goal.returns-in_err-yes-in-Some-clause-grows
+returns-in_err-yes-in-Some-clause-grows g t c = c.equal_within.ensures.grows
+
+pub returns-in_err-yes-in-Some-clause-bank : goal.returns-in_err-yes-in-Some-clause-bank
+returns-in_err-yes-in-Some-clause-bank g t c = c.equal_within.ensures.bank
+
+pub returns-in_err-no-in-Some-clause-made : goal.returns-in_err-no-in-Some-clause-made
+returns-in_err-no-in-Some-clause-made g t c = IfOk-from_err c.from_residual-in_err-no-in-Some.result _ c.from_residual-in_err-no-in-Some.ensures.0
+
+pub returns-in_err-no-in-Some-clause-width : goal.returns-in_err-no-in-Some-clause-width
+returns-in_err-no-in-Some-clause-width g t c = IfOk-from_err c.from_residual-in_err-no-in-Some.result _ c.from_residual-in_err-no-in-Some.ensures.0
+
+pub returns-in_err-no-in-Some-clause-bank : goal.returns-in_err-no-in-Some-clause-bank
+returns-in_err-no-in-Some-clause-bank g t c = c.equal_within-in-Some.ensures.bank
+
+pub returns-in_err-split-in-Some-clause-made : goal.returns-in_err-split-in-Some-clause-made
+returns-in_err-split-in-Some-clause-made g t c = IfOk-from_err c.from_residual-in_err-split-in-Some.result _ c.from_residual-in_err-split-in-Some.ensures.0
+
+pub returns-in_err-split-in-Some-clause-width : goal.returns-in_err-split-in-Some-clause-width
+returns-in_err-split-in-Some-clause-width g t c = IfOk-from_err c.from_residual-in_err-split-in-Some.result _ c.from_residual-in_err-split-in-Some.ensures.0
+
+pub returns-in_err-split-in-Some-clause-bank : goal.returns-in_err-split-in-Some-clause-bank
+returns-in_err-split-in-Some-clause-bank g t c = c.pick.ensures.bank
+
+pub returns-in_err-rest-in-Some-clause-made : goal.returns-in_err-rest-in-Some-clause-made
+returns-in_err-rest-in-Some-clause-made g t c = IfOk-from_err c.from_residual-in_err-rest-in-Some.result _ c.from_residual-in_err-rest-in-Some.ensures.0
+
+pub returns-in_err-rest-in-Some-clause-width : goal.returns-in_err-rest-in-Some-clause-width
+returns-in_err-rest-in-Some-clause-width g t c = IfOk-from_err c.from_residual-in_err-rest-in-Some.result _ c.from_residual-in_err-rest-in-Some.ensures.0
+
+pub returns-in_err-rest-in-Some-clause-bank : goal.returns-in_err-rest-in-Some-clause-bank
+returns-in_err-rest-in-Some-clause-bank g t c = c.equal_within-in-Some-2.ensures.bank
+
+pub returns-in_err-answer-in-Some-clause-made : goal.returns-in_err-answer-in-Some-clause-made
+returns-in_err-answer-in-Some-clause-made g t c = IfOk-from_err c.from_residual-in_err-answer-in-Some.result _ c.from_residual-in_err-answer-in-Some.ensures.0
+
+pub returns-in_err-answer-in-Some-clause-width : goal.returns-in_err-answer-in-Some-clause-width
+returns-in_err-answer-in-Some-clause-width g t c = IfOk-from_err c.from_residual-in_err-answer-in-Some.result _ c.from_residual-in_err-answer-in-Some.ensures.0
+
+pub returns-in_err-answer-in-Some-clause-bank : goal.returns-in_err-answer-in-Some-clause-bank
+returns-in_err-answer-in-Some-clause-bank g t c = c.both.ensures.bank
+
+pub returns-then-depth-eq0-clause-width : goal.returns-then-depth-eq0-clause-width
+returns-then-depth-eq0-clause-width g t c = c.in_ok-answer.ensures.width
+
+pub returns-then-depth-eq0-clause-grows : goal.returns-then-depth-eq0-clause-grows
+returns-then-depth-eq0-clause-grows g t c = c.one_by_one.ensures.grows
+
+pub returns-then-depth-eq0-clause-bank : goal.returns-then-depth-eq0-clause-bank
+returns-then-depth-eq0-clause-bank g t c = c.one_by_one.ensures.bank
+
+pub returns-in_ok-answer-in-None-clause-width : goal.returns-in_ok-answer-in-None-clause-width
+returns-in_ok-answer-in-None-clause-width g t c = c.in_ok-answer-in-None.ensures.width
+
+pub returns-in_ok-answer-in-None-clause-grows : goal.returns-in_ok-answer-in-None-clause-grows
+returns-in_ok-answer-in-None-clause-grows g t c = c.one_by_one-in-None.ensures.grows
+
+pub returns-in_ok-answer-in-None-clause-bank : goal.returns-in_ok-answer-in-None-clause-bank
+returns-in_ok-answer-in-None-clause-bank g t c = c.one_by_one-in-None.ensures.bank
+
+pub returns-in_ok-answer-in-Some-clause-width : goal.returns-in_ok-answer-in-Some-clause-width
+returns-in_ok-answer-in-Some-clause-width g t c = c.in_ok-answer-in-Some.ensures.width
+
+pub returns-in_ok-answer-in-Some-clause-bank : goal.returns-in_ok-answer-in-Some-clause-bank
+returns-in_ok-answer-in-Some-clause-bank g t c = c.both.ensures.bank
+
+pub one_by_one-requires-clause-bank : goal.one_by_one-requires-clause-bank
+one_by_one-requires-clause-bank g t c = c.requires.bank
+
+pub one_by_one-requires-clause-pairs : goal.one_by_one-requires-clause-pairs
+one_by_one-requires-clause-pairs g t c = c.requires.pairs
+
+pub one_by_one-requires-in-None-clause-bank : goal.one_by_one-requires-in-None-clause-bank
+one_by_one-requires-in-None-clause-bank g t c = c.requires.bank
+
+pub one_by_one-requires-in-None-clause-pairs : goal.one_by_one-requires-in-None-clause-pairs
+one_by_one-requires-in-None-clause-pairs g t c = c.requires.pairs
+
+pub pick-requires-clause-bank : goal.pick-requires-clause-bank
+pick-requires-clause-bank g t c = c.equal_within-in-Some.ensures.bank
+
+pub both-requires-clause-two : goal.both-requires-clause-two
+both-requires-clause-two g t c = c.in_ok-rest-in-Some.ensures.width

@@ -1,5 +1,7 @@
+use Rattle.ygg_shape_sums.proofs.MadeSides.{split_none, split_some}
+use Rattle.std.proofs.lemmas.Result.{IfOk-from_err}
 use Rattle.std.proofs.Common.{rules, ◌<◌, IfOk, List, sym, ap, ◌∙◌, subst, arith}
-use Rattle.ygg_shape_words.specs.ygg_bank_proofs_Widths.{wider, width_is, extends_both}
+use Rattle.ygg_shape_words.specs.ygg_bank_proofs_Widths.{wider, width_is, extends_self, extends_both}
 use Rattle.ygg_shape_words.specs.ygg_bank.Nodes.{HasWidth}
 use Rattle.ygg_shape_words.specs.ygg_bank.declared.node.Id.{Id}
 use Rattle.ygg_shape_words.proofs.Fit.{can_pick}
@@ -113,3 +115,121 @@ vanishes_within-vanishes-requires-clause-parts g t c = c.requires.parts
 
 pub vanishes_split-vanishes-requires-clause-parts : goal.vanishes_split-vanishes-requires-clause-parts
 vanishes_split-vanishes-requires-clause-parts g t c = c.requires.parts
+
+pub vanishes_within-returns-in_err-sum-clause-made : goal.vanishes_within-returns-in_err-sum-clause-made
+vanishes_within-returns-in_err-sum-clause-made g t c = IfOk-from_err c.from_residual.result _ c.from_residual.ensures.0
+
+pub vanishes_within-returns-in_err-sum-clause-width : goal.vanishes_within-returns-in_err-sum-clause-width
+vanishes_within-returns-in_err-sum-clause-width g t c = IfOk-from_err c.from_residual.result _ c.from_residual.ensures.0
+
+pub vanishes_within-returns-in_err-sum-clause-grows : goal.vanishes_within-returns-in_err-sum-clause-grows
+vanishes_within-returns-in_err-sum-clause-grows g t c = extends_self c.args.bank.now
+
+pub vanishes_within-returns-in_err-sum-clause-bank : goal.vanishes_within-returns-in_err-sum-clause-bank
+vanishes_within-returns-in_err-sum-clause-bank g t c = c.requires.bank
+
+pub vanishes_split-returns-in_err-split_of-clause-made : goal.vanishes_split-returns-in_err-split_of-clause-made
+vanishes_split-returns-in_err-split_of-clause-made g t c = IfOk-from_err c.from_residual.result _ c.from_residual.ensures.0
+
+pub vanishes_split-returns-in_err-split_of-clause-width : goal.vanishes_split-returns-in_err-split_of-clause-width
+vanishes_split-returns-in_err-split_of-clause-width g t c = IfOk-from_err c.from_residual.result _ c.from_residual.ensures.0
+
+pub vanishes_split-returns-in_err-split_of-clause-grows : goal.vanishes_split-returns-in_err-split_of-clause-grows
+vanishes_split-returns-in_err-split_of-clause-grows g t c = extends_self c.args.bank.now
+
+pub vanishes_split-returns-in_err-split_of-clause-bank : goal.vanishes_split-returns-in_err-split_of-clause-bank
+vanishes_split-returns-in_err-split_of-clause-bank g t c = c.requires.bank
+
+pub vanishes_split-returns-in_err-yes-in-Some-clause-made : goal.vanishes_split-returns-in_err-yes-in-Some-clause-made
+vanishes_split-returns-in_err-yes-in-Some-clause-made g t c =
+    IfOk-from_err c.from_residual-in_err-yes-in-Some.result _ c.from_residual-in_err-yes-in-Some.ensures.0
+
+pub vanishes_split-returns-in_err-yes-in-Some-clause-width : goal.vanishes_split-returns-in_err-yes-in-Some-clause-width
+vanishes_split-returns-in_err-yes-in-Some-clause-width g t c =
+    IfOk-from_err c.from_residual-in_err-yes-in-Some.result _ c.from_residual-in_err-yes-in-Some.ensures.0
+
+pub vanishes_split-returns-in_err-yes-in-Some-clause-grows : goal.vanishes_split-returns-in_err-yes-in-Some-clause-grows
+vanishes_split-returns-in_err-yes-in-Some-clause-grows g t c = c.vanishes_where.ensures.grows
+
+pub vanishes_split-returns-in_err-yes-in-Some-clause-bank : goal.vanishes_split-returns-in_err-yes-in-Some-clause-bank
+vanishes_split-returns-in_err-yes-in-Some-clause-bank g t c = c.vanishes_where.ensures.bank
+
+pub vanishes_split-returns-in_err-no-in-Some-clause-made : goal.vanishes_split-returns-in_err-no-in-Some-clause-made
+vanishes_split-returns-in_err-no-in-Some-clause-made g t c =
+    IfOk-from_err c.from_residual-in_err-no-in-Some.result _ c.from_residual-in_err-no-in-Some.ensures.0
+
+pub vanishes_split-returns-in_err-no-in-Some-clause-width : goal.vanishes_split-returns-in_err-no-in-Some-clause-width
+vanishes_split-returns-in_err-no-in-Some-clause-width g t c =
+    IfOk-from_err c.from_residual-in_err-no-in-Some.result _ c.from_residual-in_err-no-in-Some.ensures.0
+
+pub vanishes_split-returns-in_err-no-in-Some-clause-bank : goal.vanishes_split-returns-in_err-no-in-Some-clause-bank
+vanishes_split-returns-in_err-no-in-Some-clause-bank g t c = c.vanishes_where-in-Some.ensures.bank
+
+pub vanishes_where-returns-in_err-more-clause-made : goal.vanishes_where-returns-in_err-more-clause-made
+vanishes_where-returns-in_err-more-clause-made g t c = IfOk-from_err c.from_residual.result _ c.from_residual.ensures.0
+
+pub vanishes_where-returns-in_err-more-clause-width : goal.vanishes_where-returns-in_err-more-clause-width
+vanishes_where-returns-in_err-more-clause-width g t c = IfOk-from_err c.from_residual.result _ c.from_residual.ensures.0
+
+pub vanishes_where-returns-in_err-more-clause-grows : goal.vanishes_where-returns-in_err-more-clause-grows
+vanishes_where-returns-in_err-more-clause-grows g t c = extends_self c.args.bank.now
+
+pub vanishes_where-returns-in_err-more-clause-bank : goal.vanishes_where-returns-in_err-more-clause-bank
+vanishes_where-returns-in_err-more-clause-bank g t c = c.requires.bank
+
+pub vanishes_within-returns-then-depth-eq0-clause-width : goal.vanishes_within-returns-then-depth-eq0-clause-width
+vanishes_within-returns-then-depth-eq0-clause-width g t c = c.vanishes.ensures.width
+
+pub vanishes_within-returns-then-depth-eq0-clause-grows : goal.vanishes_within-returns-then-depth-eq0-clause-grows
+vanishes_within-returns-then-depth-eq0-clause-grows g t c = c.vanishes.ensures.grows
+
+pub vanishes_within-returns-then-depth-eq0-clause-bank : goal.vanishes_within-returns-then-depth-eq0-clause-bank
+vanishes_within-returns-then-depth-eq0-clause-bank g t c = c.vanishes.ensures.bank
+
+pub vanishes_within-returns-clause-width : goal.vanishes_within-returns-clause-width
+vanishes_within-returns-clause-width g t c = c.vanishes_split.ensures.width
+
+pub vanishes_within-returns-clause-grows : goal.vanishes_within-returns-clause-grows
+vanishes_within-returns-clause-grows g t c = c.vanishes_split.ensures.grows
+
+pub vanishes_within-returns-clause-bank : goal.vanishes_within-returns-clause-bank
+vanishes_within-returns-clause-bank g t c = c.vanishes_split.ensures.bank
+
+pub vanishes_split-returns-in-None-clause-width : goal.vanishes_split-returns-in-None-clause-width
+vanishes_split-returns-in-None-clause-width g t c = c.vanishes.ensures.width
+
+pub vanishes_split-returns-in-None-clause-grows : goal.vanishes_split-returns-in-None-clause-grows
+vanishes_split-returns-in-None-clause-grows g t c = c.vanishes.ensures.grows
+
+pub vanishes_split-returns-in-None-clause-bank : goal.vanishes_split-returns-in-None-clause-bank
+vanishes_split-returns-in-None-clause-bank g t c = c.vanishes.ensures.bank
+
+pub vanishes_split-returns-in_ok-no-in-Some-clause-bank : goal.vanishes_split-returns-in_ok-no-in-Some-clause-bank
+vanishes_split-returns-in_ok-no-in-Some-clause-bank g t c = c.pick.ensures.bank
+
+pub vanishes_where-returns-clause-width : goal.vanishes_where-returns-clause-width
+vanishes_where-returns-clause-width g t c = c.vanishes_within.ensures.width
+
+pub vanishes_where-returns-clause-grows : goal.vanishes_where-returns-clause-grows
+vanishes_where-returns-clause-grows g t c = c.vanishes_within.ensures.grows
+
+pub vanishes_where-returns-clause-bank : goal.vanishes_where-returns-clause-bank
+vanishes_where-returns-clause-bank g t c = c.vanishes_within.ensures.bank
+
+pub vanishes_split-returns-in-None-clause-made : goal.vanishes_split-returns-in-None-clause-made
+vanishes_split-returns-in-None-clause-made g t c =
+    split_none (g.B.Book.kinds c.args.book.now) c.args.width (vanishes_within (g.B.Book.kinds c.args.book.now) c.args.width c.args.depth) c.args.facts.now
+    c.args.sum.now
+    (split_of c.args.bank.now c.args.left.now (c.args.sum.now).parts) c.args.bank.now c.vanishes.new.bank c.args.left.now c.vanishes.result
+    (sym (sym c.in-None.is ∙ c.in_ok-split_of.ensures ∙ ap (λ (ps : List Summand). split_of c.args.bank.now c.args.left.now ps) c.parts.ensures))
+    c.vanishes.ensures.nodes c.vanishes.ensures.form
+
+pub vanishes_split-returns-in_ok-no-in-Some-clause-made : goal.vanishes_split-returns-in_ok-no-in-Some-clause-made
+vanishes_split-returns-in_ok-no-in-Some-clause-made g t c =
+    split_some (g.B.Book.kinds c.args.book.now) c.args.width (vanishes_within (g.B.Book.kinds c.args.book.now) c.args.width c.args.depth) c.args.facts.now
+    c.args.sum.now
+    (split_of c.args.bank.now c.args.left.now (c.args.sum.now).parts) c.args.bank.now c.pick.new.bank c.args.left.now _ c.vanishes_where.new.left
+    c.vanishes_where-in-Some.new.left c.in-Some.test c.in_ok-yes-in-Some.yes c.in_ok-no-in-Some.no c.vanishes_where.new.bank
+    c.vanishes_where-in-Some.new.bank c.pick.result
+    (sym (sym c.in-Some.is ∙ c.in_ok-split_of.ensures ∙ ap (λ (ps : List Summand). split_of c.args.bank.now c.args.left.now ps) c.parts.ensures))
+    c.saturating_sub.ensures c.in_ok-yes-in-Some.ensures.made c.in_ok-no-in-Some.ensures.made c.pick.ensures.nodes c.pick.ensures.form

@@ -1,4 +1,5 @@
 use Rattle.std.proofs.Common.{rules, ◌<◌, Some, sym, ap, ◌∙◌, subst, arith}
+use Rattle.std.proofs.lemmas.Result.{IfOk-from_err}
 use Rattle.ygg_bank.proofs.Widths.{wider, width_is, extends_self, extends_both}
 use Rattle.ygg_shape_words.proofs.Each.{each_ok, this_ok, on_ok}
 use Rattle.ygg_shape_words.proofs.Fit.{alike, alike_wider, can_pick, known_wider, known_learned}
@@ -296,3 +297,216 @@ plain-requires-in-Plain g t c = c.requires.words
 
 pub returns-in-Known-clause-grows : goal.returns-in-Known-clause-grows
 returns-in-Known-clause-grows g t c = extends_self c.args.bank.now
+
+pub returns-then-depth-eq0-clause-width : goal.returns-then-depth-eq0-clause-width
+returns-then-depth-eq0-clause-width g t c = c.plain.ensures.width
+
+pub returns-then-depth-eq0-clause-grows : goal.returns-then-depth-eq0-clause-grows
+returns-then-depth-eq0-clause-grows g t c = c.plain.ensures.grows
+
+pub returns-then-depth-eq0-clause-bank : goal.returns-then-depth-eq0-clause-bank
+returns-then-depth-eq0-clause-bank g t c = c.plain.ensures.bank
+
+pub returns-then-depth-eq0-clause-inputs : goal.returns-then-depth-eq0-clause-inputs
+returns-then-depth-eq0-clause-inputs g t c = c.plain.ensures.inputs
+
+pub returns-in-One-clause-width : goal.returns-in-One-clause-width
+returns-in-One-clause-width g t c = c.make.ensures.width
+
+pub returns-in-One-clause-grows : goal.returns-in-One-clause-grows
+returns-in-One-clause-grows g t c = c.make.ensures.grows
+
+pub returns-in-One-clause-bank : goal.returns-in-One-clause-bank
+returns-in-One-clause-bank g t c = c.make.ensures.bank
+
+pub returns-in-One-clause-inputs : goal.returns-in-One-clause-inputs
+returns-in-One-clause-inputs g t c = c.make.ensures.inputs
+
+pub returns-in-Never-clause-width : goal.returns-in-Never-clause-width
+returns-in-Never-clause-width g t c = c.make-in-Never.ensures.width
+
+pub returns-in-Never-clause-grows : goal.returns-in-Never-clause-grows
+returns-in-Never-clause-grows g t c = c.make-in-Never.ensures.grows
+
+pub returns-in-Never-clause-bank : goal.returns-in-Never-clause-bank
+returns-in-Never-clause-bank g t c = c.make-in-Never.ensures.bank
+
+pub returns-in-Never-clause-inputs : goal.returns-in-Never-clause-inputs
+returns-in-Never-clause-inputs g t c = c.make-in-Never.ensures.inputs
+
+pub returns-in-Known-clause-width : goal.returns-in-Known-clause-width
+returns-in-Known-clause-width g t c = c.in-Known.ensures.fits
+
+pub returns-in-Known-clause-bank : goal.returns-in-Known-clause-bank
+returns-in-Known-clause-bank g t c = c.requires.bank
+
+pub returns-in-Known-clause-inputs : goal.returns-in-Known-clause-inputs
+returns-in-Known-clause-inputs g t c = λ next h. h
+
+pub returns-in-Plain-clause-width : goal.returns-in-Plain-clause-width
+returns-in-Plain-clause-width g t c = c.plain-in-Plain.ensures.width
+
+pub returns-in-Plain-clause-grows : goal.returns-in-Plain-clause-grows
+returns-in-Plain-clause-grows g t c = c.plain-in-Plain.ensures.grows
+
+pub returns-in-Plain-clause-bank : goal.returns-in-Plain-clause-bank
+returns-in-Plain-clause-bank g t c = c.plain-in-Plain.ensures.bank
+
+pub returns-in-Plain-clause-inputs : goal.returns-in-Plain-clause-inputs
+returns-in-Plain-clause-inputs g t c = c.plain-in-Plain.ensures.inputs
+
+pub returns-in_err-yes-in-Split-clause-made : goal.returns-in_err-yes-in-Split-clause-made
+returns-in_err-yes-in-Split-clause-made g t c = IfOk-from_err c.from_residual.result _ c.from_residual.ensures.0
+
+pub returns-in_err-yes-in-Split-clause-known : goal.returns-in_err-yes-in-Split-clause-known
+returns-in_err-yes-in-Split-clause-known g t c = IfOk-from_err c.from_residual.result _ c.from_residual.ensures.0
+
+pub returns-in_err-yes-in-Split-clause-width : goal.returns-in_err-yes-in-Split-clause-width
+returns-in_err-yes-in-Split-clause-width g t c = IfOk-from_err c.from_residual.result _ c.from_residual.ensures.0
+
+pub returns-in_err-yes-in-Split-clause-grows : goal.returns-in_err-yes-in-Split-clause-grows
+returns-in_err-yes-in-Split-clause-grows g t c = c.same_within.ensures.grows
+
+pub returns-in_err-yes-in-Split-clause-bank : goal.returns-in_err-yes-in-Split-clause-bank
+returns-in_err-yes-in-Split-clause-bank g t c = c.same_within.ensures.bank
+
+pub returns-in_err-yes-in-Split-clause-inputs : goal.returns-in_err-yes-in-Split-clause-inputs
+returns-in_err-yes-in-Split-clause-inputs g t c = c.same_within.ensures.inputs
+
+pub returns-in_err-no-in-Split-clause-made : goal.returns-in_err-no-in-Split-clause-made
+returns-in_err-no-in-Split-clause-made g t c = IfOk-from_err c.from_residual-in_err-no-in-Split.result _ c.from_residual-in_err-no-in-Split.ensures.0
+
+pub returns-in_err-no-in-Split-clause-known : goal.returns-in_err-no-in-Split-clause-known
+returns-in_err-no-in-Split-clause-known g t c = IfOk-from_err c.from_residual-in_err-no-in-Split.result _ c.from_residual-in_err-no-in-Split.ensures.0
+
+pub returns-in_err-no-in-Split-clause-width : goal.returns-in_err-no-in-Split-clause-width
+returns-in_err-no-in-Split-clause-width g t c = IfOk-from_err c.from_residual-in_err-no-in-Split.result _ c.from_residual-in_err-no-in-Split.ensures.0
+
+pub returns-in_err-no-in-Split-clause-bank : goal.returns-in_err-no-in-Split-clause-bank
+returns-in_err-no-in-Split-clause-bank g t c = c.same_within-in-Split.ensures.bank
+
+pub returns-in_err-answer-in-Split-clause-made : goal.returns-in_err-answer-in-Split-clause-made
+returns-in_err-answer-in-Split-clause-made g t c =
+    IfOk-from_err c.from_residual-in_err-answer-in-Split.result _ c.from_residual-in_err-answer-in-Split.ensures.0
+
+pub returns-in_err-answer-in-Split-clause-known : goal.returns-in_err-answer-in-Split-clause-known
+returns-in_err-answer-in-Split-clause-known g t c =
+    IfOk-from_err c.from_residual-in_err-answer-in-Split.result _ c.from_residual-in_err-answer-in-Split.ensures.0
+
+pub returns-in_err-answer-in-Split-clause-width : goal.returns-in_err-answer-in-Split-clause-width
+returns-in_err-answer-in-Split-clause-width g t c =
+    IfOk-from_err c.from_residual-in_err-answer-in-Split.result _ c.from_residual-in_err-answer-in-Split.ensures.0
+
+pub returns-in_err-answer-in-Split-clause-bank : goal.returns-in_err-answer-in-Split-clause-bank
+returns-in_err-answer-in-Split-clause-bank g t c = c.pick.ensures.bank
+
+pub returns-in_ok-answer-in-Split-clause-bank : goal.returns-in_ok-answer-in-Split-clause-bank
+returns-in_ok-answer-in-Split-clause-bank g t c = c.pick.ensures.bank
+
+pub returns-in_err-first-in-Either-clause-made : goal.returns-in_err-first-in-Either-clause-made
+returns-in_err-first-in-Either-clause-made g t c =
+    IfOk-from_err c.from_residual-in_err-first-in-Either.result _ c.from_residual-in_err-first-in-Either.ensures.0
+
+pub returns-in_err-first-in-Either-clause-known : goal.returns-in_err-first-in-Either-clause-known
+returns-in_err-first-in-Either-clause-known g t c =
+    IfOk-from_err c.from_residual-in_err-first-in-Either.result _ c.from_residual-in_err-first-in-Either.ensures.0
+
+pub returns-in_err-first-in-Either-clause-width : goal.returns-in_err-first-in-Either-clause-width
+returns-in_err-first-in-Either-clause-width g t c =
+    IfOk-from_err c.from_residual-in_err-first-in-Either.result _ c.from_residual-in_err-first-in-Either.ensures.0
+
+pub returns-in_err-first-in-Either-clause-grows : goal.returns-in_err-first-in-Either-clause-grows
+returns-in_err-first-in-Either-clause-grows g t c = c.same_within-in-Either.ensures.grows
+
+pub returns-in_err-first-in-Either-clause-bank : goal.returns-in_err-first-in-Either-clause-bank
+returns-in_err-first-in-Either-clause-bank g t c = c.same_within-in-Either.ensures.bank
+
+pub returns-in_err-first-in-Either-clause-inputs : goal.returns-in_err-first-in-Either-clause-inputs
+returns-in_err-first-in-Either-clause-inputs g t c = c.same_within-in-Either.ensures.inputs
+
+pub returns-in_err-second-in-Either-clause-made : goal.returns-in_err-second-in-Either-clause-made
+returns-in_err-second-in-Either-clause-made g t c =
+    IfOk-from_err c.from_residual-in_err-second-in-Either.result _ c.from_residual-in_err-second-in-Either.ensures.0
+
+pub returns-in_err-second-in-Either-clause-known : goal.returns-in_err-second-in-Either-clause-known
+returns-in_err-second-in-Either-clause-known g t c =
+    IfOk-from_err c.from_residual-in_err-second-in-Either.result _ c.from_residual-in_err-second-in-Either.ensures.0
+
+pub returns-in_err-second-in-Either-clause-width : goal.returns-in_err-second-in-Either-clause-width
+returns-in_err-second-in-Either-clause-width g t c =
+    IfOk-from_err c.from_residual-in_err-second-in-Either.result _ c.from_residual-in_err-second-in-Either.ensures.0
+
+pub returns-in_err-second-in-Either-clause-bank : goal.returns-in_err-second-in-Either-clause-bank
+returns-in_err-second-in-Either-clause-bank g t c = c.same_within-in-Either-2.ensures.bank
+
+pub returns-in_err-answer-in-Either-clause-made : goal.returns-in_err-answer-in-Either-clause-made
+returns-in_err-answer-in-Either-clause-made g t c =
+    IfOk-from_err c.from_residual-in_err-answer-in-Either.result _ c.from_residual-in_err-answer-in-Either.ensures.0
+
+pub returns-in_err-answer-in-Either-clause-known : goal.returns-in_err-answer-in-Either-clause-known
+returns-in_err-answer-in-Either-clause-known g t c =
+    IfOk-from_err c.from_residual-in_err-answer-in-Either.result _ c.from_residual-in_err-answer-in-Either.ensures.0
+
+pub returns-in_err-answer-in-Either-clause-width : goal.returns-in_err-answer-in-Either-clause-width
+returns-in_err-answer-in-Either-clause-width g t c =
+    IfOk-from_err c.from_residual-in_err-answer-in-Either.result _ c.from_residual-in_err-answer-in-Either.ensures.0
+
+pub returns-in_err-answer-in-Either-clause-bank : goal.returns-in_err-answer-in-Either-clause-bank
+returns-in_err-answer-in-Either-clause-bank g t c = c.either.ensures.bank
+
+pub returns-in_ok-answer-in-Either-clause-bank : goal.returns-in_ok-answer-in-Either-clause-bank
+returns-in_ok-answer-in-Either-clause-bank g t c = c.either.ensures.bank
+
+pub returns-in_err-constant-in-Against-clause-made : goal.returns-in_err-constant-in-Against-clause-made
+returns-in_err-constant-in-Against-clause-made g t c =
+    IfOk-from_err c.from_residual-in_err-constant-in-Against.result _ c.from_residual-in_err-constant-in-Against.ensures.0
+
+pub returns-in_err-constant-in-Against-clause-known : goal.returns-in_err-constant-in-Against-clause-known
+returns-in_err-constant-in-Against-clause-known g t c =
+    IfOk-from_err c.from_residual-in_err-constant-in-Against.result _ c.from_residual-in_err-constant-in-Against.ensures.0
+
+pub returns-in_err-constant-in-Against-clause-width : goal.returns-in_err-constant-in-Against-clause-width
+returns-in_err-constant-in-Against-clause-width g t c =
+    IfOk-from_err c.from_residual-in_err-constant-in-Against.result _ c.from_residual-in_err-constant-in-Against.ensures.0
+
+pub returns-in_err-constant-in-Against-clause-grows : goal.returns-in_err-constant-in-Against-clause-grows
+returns-in_err-constant-in-Against-clause-grows g t c = c.make-in-Against.ensures.grows
+
+pub returns-in_err-constant-in-Against-clause-bank : goal.returns-in_err-constant-in-Against-clause-bank
+returns-in_err-constant-in-Against-clause-bank g t c = c.make-in-Against.ensures.bank
+
+pub returns-in_err-constant-in-Against-clause-inputs : goal.returns-in_err-constant-in-Against-clause-inputs
+returns-in_err-constant-in-Against-clause-inputs g t c = c.make-in-Against.ensures.inputs
+
+pub returns-in_err-answer-in-Against-clause-made : goal.returns-in_err-answer-in-Against-clause-made
+returns-in_err-answer-in-Against-clause-made g t c =
+    IfOk-from_err c.from_residual-in_err-answer-in-Against.result _ c.from_residual-in_err-answer-in-Against.ensures.0
+
+pub returns-in_err-answer-in-Against-clause-known : goal.returns-in_err-answer-in-Against-clause-known
+returns-in_err-answer-in-Against-clause-known g t c =
+    IfOk-from_err c.from_residual-in_err-answer-in-Against.result _ c.from_residual-in_err-answer-in-Against.ensures.0
+
+pub returns-in_err-answer-in-Against-clause-width : goal.returns-in_err-answer-in-Against-clause-width
+returns-in_err-answer-in-Against-clause-width g t c =
+    IfOk-from_err c.from_residual-in_err-answer-in-Against.result _ c.from_residual-in_err-answer-in-Against.ensures.0
+
+pub returns-in_err-answer-in-Against-clause-bank : goal.returns-in_err-answer-in-Against-clause-bank
+returns-in_err-answer-in-Against-clause-bank g t c = c.same_within-in-Against.ensures.bank
+
+pub returns-in_ok-answer-in-Against-clause-bank : goal.returns-in_ok-answer-in-Against-clause-bank
+returns-in_ok-answer-in-Against-clause-bank g t c = c.same_within-in-Against.ensures.bank
+
+pub form_at-requires-clause-words : goal.form_at-requires-clause-words
+form_at-requires-clause-words g t c = c.requires.words
+
+pub make-requires : goal.make-requires
+make-requires g t c = record { least = omega arith; most = omega arith; fits = omega arith }
+
+pub make-requires-in-Never : goal.make-requires-in-Never
+make-requires-in-Never g t c = record { least = omega arith; most = omega arith; fits = omega arith }
+
+pub pick-requires-clause-bank : goal.pick-requires-clause-bank
+pick-requires-clause-bank g t c = c.same_within-in-Split.ensures.bank
+
+pub either-requires-clause-two : goal.either-requires-clause-two
+either-requires-clause-two g t c = c.in_ok-second-in-Either.ensures.width
