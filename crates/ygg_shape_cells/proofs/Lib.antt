@@ -19,3 +19,4 @@ pub mod Makers
 pub mod Whole
 pub mod Freshness
 pub mod Known
+pub mod Handed

@@ -135,7 +135,7 @@ pub alike_tables : (nodes : List Node) (one two : SymValue) (a b : List (List Id
 alike_tables nodes one two a b h e f = tables_case nodes h.shape a b (subst (HasShape nodes h.shape) e h.one_has) (subst (HasShape nodes h.shape) f h.two_has)
 
 -- the first row of a table, and its first word
-first_row : (nodes : List Node) (table : List (List Id)) (x d : List Id) (n w : ℕ) → IsTable nodes n w table → x ≡ get_or table 0 d → IsRow nodes n w x
+pub first_row : (nodes : List Node) (table : List (List Id)) (x d : List Id) (n w : ℕ) → IsTable nodes n w table → x ≡ get_or table 0 d → IsRow nodes n w x
 first_row nodes table x d n w h e = at_place (IsRow nodes n w) table 0 x d (let l = h.limits in omega arith) e h.rows
 
 pub first_word : (nodes : List Node) (table : List (List Id)) (x d : List Id) (a : Id) → TableStands nodes table → x ≡ get_or table 0 d →

@@ -1,9 +1,10 @@
 use Rattle.std.proofs.Common.{◌∙◌, ◌+◌, ℕ, List, sym, subst}
-use Rattle.ygg_shape_words.specs.ygg_bank_proofs_Widths.{wider, extends_both}
+use Rattle.ygg_shape_words.specs.ygg_bank_proofs_Widths.{wider, extends_both, extends_self}
 use Rattle.ygg_shape_cells.proofs.Wider.{row_at, row_wider}
 use Rattle.ygg_shape_words.specs.ygg_bank.declared.node.Id.{Id}
 use Rattle.ygg_shape_cells.specs.Guarding.{guarded_at}
-use Rattle.ygg_shape_cells.proofs.Steps.{EachFrom, each_from_goes}
+use Rattle.ygg_shape_cells.proofs.Steps.{EachFrom, each_from_goes, each_from_begins, each_from_nodes, each_from_value}
+use Rattle.std.proofs.lemmas.Result.{IfOk-from_err}
 use Rattle.ygg_shape_cells.proofs.guarding.guard_all.Goals as goal
 
 pub guarded_at-requires-clause-test : goal.guarded_at-requires-clause-test
@@ -48,3 +49,40 @@ loop-number-preserved g c =
       grows = extends_both old c.loop-number.bank next c.loop-number.invariant.grows c.guarded_at.ensures.grows;
       bank = c.guarded_at.ensures.bank;
     }
+
+pub loop-number-init : goal.loop-number-init
+loop-number-init g c =
+    let kinds = g.B.Book.kinds c.args.book.now in
+    let step = λ (number : ℕ) (row : List Id). guarded_at kinds c.args.guard.test c.args.guard.at c.args.guard.width number c.args.new.now row in
+    record {
+      went = subst (λ z. EachFrom step c.args.table.now c.args.bank.now 0 z c.args.bank.now) (sym c.new-rows.ensures)
+          (each_from_begins step c.args.table.now c.args.bank.now);
+      grows = extends_self c.args.bank.now;
+      bank = c.requires.bank;
+    }
+
+pub returns-clause-nodes : goal.returns-clause-nodes
+returns-clause-nodes g c =
+    let kinds = g.B.Book.kinds c.args.book.now in
+    let step = λ (number : ℕ) (row : List Id). guarded_at kinds c.args.guard.test c.args.guard.at c.args.guard.width number c.args.new.now row in
+    each_from_nodes step c.args.table.now c.args.bank.now c.loop-number.number c.loop-number.rows c.loop-number.bank c.loop-number-test.false
+    c.loop-number.invariant.went
+
+pub returns-clause-form : goal.returns-clause-form
+returns-clause-form g c =
+    let kinds = g.B.Book.kinds c.args.book.now in
+    let step = λ (number : ℕ) (row : List Id). guarded_at kinds c.args.guard.test c.args.guard.at c.args.guard.width number c.args.new.now row in
+    each_from_value step c.args.table.now c.args.bank.now c.loop-number.number c.loop-number.rows c.loop-number.bank c.loop-number-test.false
+    c.loop-number.invariant.went
+
+pub returns-in_err-row-clause-nodes : goal.returns-in_err-row-clause-nodes
+returns-in_err-row-clause-nodes g c = IfOk-from_err c.from_residual.result _ c.from_residual.ensures.0
+
+pub returns-in_err-row-clause-form : goal.returns-in_err-row-clause-form
+returns-in_err-row-clause-form g c = IfOk-from_err c.from_residual.result _ c.from_residual.ensures.0
+
+pub returns-in_err-push-clause-nodes : goal.returns-in_err-push-clause-nodes
+returns-in_err-push-clause-nodes g c = IfOk-from_err c.from_residual-in_err-push.result _ c.from_residual-in_err-push.ensures.0
+
+pub returns-in_err-push-clause-form : goal.returns-in_err-push-clause-form
+returns-in_err-push-clause-form g c = IfOk-from_err c.from_residual-in_err-push.result _ c.from_residual-in_err-push.ensures.0

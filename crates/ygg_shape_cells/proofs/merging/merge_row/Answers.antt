@@ -1,8 +1,9 @@
 use Rattle.std.proofs.Common.{◌+◌, ◌<◌, length, refl, sym, subst, arith}
-use Rattle.ygg_shape_words.specs.ygg_bank_proofs_Widths.{extends_both}
+use Rattle.ygg_shape_words.specs.ygg_bank_proofs_Widths.{extends_both, extends_self}
 use Rattle.ygg_shape_words.specs.Picking.{picked}
-use Rattle.ygg_shape_cells.proofs.Steps.{EachTwo, each_two_goes}
+use Rattle.ygg_shape_cells.proofs.Steps.{EachTwo, each_two_goes, each_two_begins, each_two_nodes, each_two_value}
 use Rattle.ygg_shape_cells.proofs.Wider.{pick_at}
+use Rattle.std.proofs.lemmas.Result.{IfOk-from_err}
 use Rattle.ygg_shape_cells.proofs.merging.merge_row.Goals as goal
 
 pub pick-requires-clause-pick : goal.pick-requires-clause-pick
@@ -31,3 +32,41 @@ loop-place-preserved g c =
       grows = extends_both c.args.bank.now c.loop-place.bank c.pick.new.bank c.loop-place.invariant.grows c.pick.ensures.grows;
       bank = c.pick.ensures.bank;
     }
+
+pub loop-place-init : goal.loop-place-init
+loop-place-init g c =
+    let step = picked (g.B.Book.kinds c.args.book.now) c.args.test in
+    record {
+      went = subst (λ z. EachTwo step c.args.yes.now c.args.no.now c.args.bank.now 0 z c.args.bank.now) (sym c.new-row.ensures)
+          (each_two_begins step c.args.yes.now c.args.no.now c.args.bank.now);
+      grows = extends_self c.args.bank.now;
+      bank = c.requires.bank;
+    }
+
+pub returns-clause-nodes : goal.returns-clause-nodes
+returns-clause-nodes g c =
+    let step = picked (g.B.Book.kinds c.args.book.now) c.args.test in
+    each_two_nodes step c.args.yes.now c.args.no.now c.args.bank.now c.loop-place.place c.loop-place.row c.loop-place.bank c.loop-place-test.false
+    c.loop-place.invariant.went
+
+pub returns-clause-form : goal.returns-clause-form
+returns-clause-form g c =
+    let step = picked (g.B.Book.kinds c.args.book.now) c.args.test in
+    each_two_value step c.args.yes.now c.args.no.now c.args.bank.now c.loop-place.place c.loop-place.row c.loop-place.bank c.loop-place-test.false
+    c.loop-place.invariant.went
+
+pub returns-in_err-word-clause-nodes : goal.returns-in_err-word-clause-nodes
+returns-in_err-word-clause-nodes g c = IfOk-from_err c.from_residual.result _ c.from_residual.ensures.0
+
+pub returns-in_err-word-clause-form : goal.returns-in_err-word-clause-form
+returns-in_err-word-clause-form g c = IfOk-from_err c.from_residual.result _ c.from_residual.ensures.0
+
+pub returns-in_err-push-clause-nodes : goal.returns-in_err-push-clause-nodes
+returns-in_err-push-clause-nodes g c = IfOk-from_err c.from_residual-in_err-push.result _ c.from_residual-in_err-push.ensures.0
+
+pub returns-in_err-push-clause-form : goal.returns-in_err-push-clause-form
+returns-in_err-push-clause-form g c = IfOk-from_err c.from_residual-in_err-push.result _ c.from_residual-in_err-push.ensures.0
+
+pub bounds-no-place : goal.bounds-no-place
+bounds-no-place g c =
+    let h = c.requires.rows in let one = h.one_is in let two = h.two_is in omega (arith, one.count, two.count, c.loop-place-test.true)

@@ -45,3 +45,15 @@ returns-clause-inputs g c =
     (subst (λ t. OnOk c.select_by.result (c.select_by.new.bank ≡ (selected kinds t c.args.at c.args.bank.now).nodes)) c.as_slice.ensures
     c.select_by.ensures.nodes)
     (λ next. selected_keeps kinds (InputsBelow next) (inputs_stay kinds next) c.args.table.now c.args.at c.args.bank.now)
+
+pub returns-clause-nodes : goal.returns-clause-nodes
+returns-clause-nodes g c =
+    subst (λ t. OnOk c.select_by.result (c.select_by.new.bank ≡ (selected (g.B.Book.kinds c.args.book.now) t c.args.at c.args.bank.now).nodes))
+    c.as_slice.ensures
+    c.select_by.ensures.nodes
+
+pub returns-clause-form : goal.returns-clause-form
+returns-clause-form g c =
+    subst (λ t. IfOk c.select_by.result (λ (row : List Id). row ≡ (selected (g.B.Book.kinds c.args.book.now) t c.args.at c.args.bank.now).value))
+    c.as_slice.ensures
+    c.select_by.ensures.form
