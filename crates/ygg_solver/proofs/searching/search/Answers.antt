@@ -1,4 +1,5 @@
-use Rattle.std.proofs.Common.{◌≡◌, ◌<◌, ◌≤◌, ◌-◌, ◌∷◌, ℕ, length, All, List, [], ◌++◌, map, sym, subst, ap, ◌∙◌, arith, refl, inr, Contains, length-append, get_or}
+use Rattle.std.proofs.Common.{◌≡◌, ◌<◌, ◌≤◌, ◌-◌, ◌∷◌, ℕ, length, All, List, [], ◌++◌, map, sym, subst, ap, ◌∙◌, arith, refl, inr, Contains, get_or}
+use Rattle.std.proofs.Common.{length-append}
 use Rattle.std.proofs.lemmas.List.Elements.{Contains-get_or, All-push}
 use Rattle.ygg_cnf_set.specs.LiteralSet.{Fits}
 use Rattle.ygg_cnf.specs.Derivations.{HasClause, DerivesClause}
