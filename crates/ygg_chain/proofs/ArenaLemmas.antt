@@ -34,7 +34,9 @@ use Rattle.std.proofs.Common.{
   append_assoc,
 }
 use Rattle.std.proofs.lemmas.List.{drop-append-le, take-append-le, length-drop, length-take-le, map-append, take_more, get_or_append_left, get_or-map}
-use Rattle.std.proofs.lemmas.List.{length-map}
+use Rattle.std.proofs.lemmas.List.{length-map, take_all}
+use Rattle.std.proofs.lemmas.Option.{slice_get-get_or, slice_get-map}
+use Rattle.std.specs.Prelude.{option_map, slice_get, Some}
 use Rattle.std.proofs.lemmas.List.Elements.{All-weaker, All-contains, All-cons, All-nil, All-head, All-tail, All-append, All-take}
 use Rattle.std.proofs.Math.Seq.{drop-append_seam, take-length}
 use Rattle.ygg_cnf.specs.declared.lit.Lit.{Lit}
@@ -257,3 +259,24 @@ pub more_mapped : {A B : Type 0} (f : A → B) (xs : List A) (i : ℕ) (d : A) (
 more_mapped f xs i d old now next l was is =
     let items : map f (take (i + 1) xs) ≡ map f (take i xs) ++ f (get_or xs i d) ∷ [] = ap (map f) (take_more xs i d l) ∙ map-append f (take i xs) _ in
     is ∙ (ap (λ z. z ++ f (get_or xs i d) ∷ []) was ∙ (append_assoc old (map f (take i xs)) _ ∙ ap (λ z. old ++ z) (sym items)))
+
+-- the clause at a place is the one that is stored there
+pub clause_here : (lits : List Lit) (stored : List Stored) (place : ℕ) (s : Stored) → place < length stored → s ≡ get_or stored place s →
+    slice_get (clauses_of lits stored) place ≡ Some (clause_of lits s)
+clause_here lits stored place s l at =
+    slice_get-map (clause_of lits) stored place
+    ∙ ap (option_map (clause_of lits)) (slice_get-get_or stored place s l ∙ ap Some (sym at))
+
+-- what is left from a place on
+all_left : (xs : List Lit) (from : ℕ) → take (length xs - from) (drop from xs) ≡ drop from xs
+all_left xs from = take_all (length xs - from) (drop from xs) (rw length-drop (omega arith))
+
+pub left_made : (lits now : List Lit) (from : ℕ) (p : Pattern) → now ≡ lits → made (take (length now - from) (drop from now)) p ≡ made (drop from lits) p
+left_made lits now from p is = rw (is, all_left lits from) refl
+
+pub left_fits : (lits now : List Lit) (stored : List Stored) (place from : ℕ) (p : Pattern) (s : Stored) → now ≡ lits → s ≡ Made from p →
+    All (IsStored (length lits)) stored → place < length stored → s ≡ get_or stored place s →
+    IsPattern (length (take (length now - from) (drop from now))) p
+left_fits lits now stored place from p s is e all l at =
+    let m : IsStored (length lits) (Made from p) = subst (IsStored (length lits)) (sym at ∙ e) (all place s l) in
+    rw (is, all_left lits from, length-drop from lits) m.1

@@ -50,6 +50,12 @@ no_place table variables index variable absent =
           absurd (absent (subst (Contains variables) at (Contains-get_or variables place 0 inside)))
     ] refl
 
+-- and what has no place isn't among them
+pub absent : (table : PlaceTable) (variables : List ℕ) → IsIndexOf table variables → (variable : ℕ) → place_of table variable ≡ None →
+    Contains variables variable → ⊥
+absent table variables index variable none (place, within, is) =
+    none_some place (sym none ∙ (index variable place).1 (within, sym (get_or_default_zero variables place variable within) ∙ is))
+
 -- a new variable's place stands for its literals
 pub last_stands : (variables : List ℕ) (lit : Lit)
     → StandsFor (variables ++ lit.var ∷ []) (record { var = length variables; negated = lit.negated }) lit

@@ -45,7 +45,7 @@ use Rattle.ygg_cnf.specs.Logs.{IsOpen}
 use Rattle.ygg_cnf.specs.declared.lit.Lit.{Lit}
 use Rattle.ygg_cnf_set.specs.LiteralSet.{Fits}
 use Rattle.ygg_solver.proofs.LearnLemmas.{none_is_some}
-use Rattle.ygg_solver.specs.Learning.{IsLastDecision, IsJump}
+use Rattle.ygg_solver.specs.Learning.{IsSound, IsLastDecision, IsJump}
 use Rattle.ygg_watch.specs.Propagation.{Propagation, decided, Implies, Spreads, with_clause, back_to}
 use Rattle.ygg_solver.specs.Kept.{IsReady}
 use Rattle.ygg_watch.proofs.TrailLemmas.{entry_within, assigned_at, at_push, at_front, fresh_place, at_in}
@@ -305,3 +305,25 @@ fits_within n variable_count y l le = omega (arith, l, le)
 pub jump_or : (trail : List Entry) (clause : List Lit) (start level other : ℕ) → (other ≡ 0) ⊎ (other ≡ level) → IsJump trail clause start level →
     IsJump trail clause start other
 jump_or trail clause start level other o j = ⊎_elim (λ z. inl z) (λ e. subst (IsJump trail clause start) (sym e) j) o
+
+-- the trail is sound, in other words for the clauses and the trail
+pub sound_in : (p : Propagation) (clauses : List (List Lit)) (trail : List Entry) → p.clauses ≡ clauses → p.trail ≡ trail → IsReady p → IsSound clauses trail
+sound_in p clauses trail e f r =
+    subst (λ (l : List (List Lit)). IsSound l trail) e (subst (λ (t : List Entry). IsSound p.clauses t) f r.sound)
+
+-- where nothing is assigned
+none_at : (trail : List Entry) (q : ℕ) (e : Entry) → trail ≡ [] → IsAt trail q e → ⊥
+none_at trail q e is h = let k : IsAt [] q e = rw is at h in cc
+
+pub ready_empty : (p : Propagation) → p.trail ≡ [] → IsReady p
+ready_empty p is = record {
+  sound = record {
+    distinct = λ i j d e h k v. absurd (none_at p.trail i d is h);
+    reasons = λ q e id h s. absurd (none_at p.trail q e is h);
+  };
+  quiet = λ q e h n. absurd (none_at p.trail q e is h);
+  rises = λ q s d e h k l n. absurd (none_at p.trail q d is h);
+  low = λ q e h. absurd (none_at p.trail q e is h);
+  above = λ q e h n. absurd (none_at p.trail q e is h);
+  within = λ q e h. absurd (none_at p.trail q e is h);
+}

@@ -47,9 +47,9 @@ use Rattle.std.proofs.Common.{
 }
 use Rattle.std.proofs.Math.Seq.{get_or-append_seam}
 use Rattle.std.proofs.lemmas.Bool.{cases_Bool, cases_lt, leb-true, false≢true, eq-eqb, ne_eqb}
-use Rattle.std.proofs.lemmas.List.{take-append-le, get_or-take, get_or_append_left, take_all}
+use Rattle.std.proofs.lemmas.List.{take-append-le, get_or-take, get_or_append_left, get_or_past, get_or-replicate, take_all}
 use Rattle.std.proofs.lemmas.Option.{same_Some, slice_get-get_or}
-use Rattle.std.specs.Prelude.{option_map}
+use Rattle.std.specs.Prelude.{option_map, replicate}
 use Rattle.ygg_cnf_set.specs.LiteralSet.{InSet, IsSetOf, Fits, code_of}
 use Rattle.ygg_cnf.specs.Literals.{complement}
 use Rattle.ygg_cnf.specs.declared.lit.Lit.{Lit}
@@ -336,6 +336,25 @@ pub kept_none : (truth : List Bool) (places : List ℕ) (variable_count : ℕ) �
 kept_none truth places variable_count none size places_size =
     kept_of [] truth places variable_count (λ y. ((λ m. absurd (false≢true (sym (none (code_of y)) ∙ m))), (λ (q, (e, (h, s))). cc))) size places_size
     (λ q e h. cc)
+
+pub kept_made : (truth : List Bool) (places : List ℕ) (variable_count : ℕ) → truth ≡ replicate (2 * variable_count) false →
+    length truth ≡ 2 * variable_count → length places ≡ variable_count → IsKept [] truth places variable_count
+kept_made truth places variable_count is size places_size =
+    kept_none truth places variable_count (λ k. ⊎_elim (λ l. rw is (get_or-replicate (2 * variable_count) k false false (omega (arith, size, l))))
+    (λ l. get_or_past truth k false l) (cases_lt k (length truth))) size places_size
+
+pub trail_none : (variable_count : ℕ) → IsTrail [] variable_count
+trail_none variable_count = record { distinct = λ p q d e h k v. cc; within = λ q e h. cc }
+
+pub levelled_none : IsLevelled [] []
+levelled_none = record {
+  rising = λ i j l m. omega arith;
+  count = λ j l. omega arith;
+  within = λ j l. omega arith;
+  below = λ j q e l h k. omega arith;
+  from = λ j q e l h k. omega arith;
+  low = λ q e h. cc;
+}
 
 -- what a slice writes back is the slice
 pub written : (n : ℕ) (seen before : List Bool) → length seen ≡ length before → n ≡ length before → take n (seen ++ drop (length seen) before) ≡ seen

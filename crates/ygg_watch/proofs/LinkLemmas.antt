@@ -10,25 +10,37 @@ use Rattle.std.proofs.Common.{
   get_or,
   set,
   map,
+  ◌++◌,
+  ◌∷◌,
+  [],
   sym,
+  subst,
   ap,
   ◌∙◌,
   arith,
   refl,
+  Bool,
   true,
   false,
+  not,
+  ◌&&◌,
+  eqb,
+  IsTrue,
   Option,
   Some,
   None,
   IfSome,
   IfNone,
 }
-use Rattle.std.proofs.lemmas.List.{set-get_or, map-set, get_or-map}
+use Rattle.std.proofs.lemmas.List.{set-get_or, map-set, map-append, append_assoc, length-append, length-map, get_or-map}
 use Rattle.ygg_cnf_set.specs.LiteralSet.{code_of}
-use Rattle.ygg_cnf.proofs.Lits.{same_lit}
+use Rattle.std.proofs.lemmas.Bool.{false≢true}
+use Rattle.std.specs.Bool.{beq}
+use Rattle.ygg_cnf.proofs.Lits.{same_lit, same_from_ne, differ_from_ne}
 use Rattle.ygg_cnf.specs.declared.lit.Lit.{Lit}
 use Rattle.ygg_cnf_set.specs.Codes.{lit_at}
-use Rattle.ygg_watch.specs.Links.{Linked}
+use Rattle.ygg_watch.specs.Links.{Linked, linked}
+use Rattle.ygg_watch.specs.Lists.{lit_of, no_lit}
 use Rattle.ygg_watch.specs.declared.links.WatchNode.{WatchNode}
 
 -- what a changed node keeps
@@ -65,3 +77,30 @@ some_more (Some x) P Q f h = f x h
 pub none_more : {X : Type 0} (r : Option X) (P Q : Type 0) → (P → Q) → IfNone r P → IfNone r Q
 none_more None P Q f h = f h
 none_more (Some x) P Q f h = h
+
+-- a watch has its node
+pub node_here : (nodes : List WatchNode) (firsts : List ℕ) (now : Linked) (i : ℕ) → linked nodes firsts ≡ now → i < length now.watched → i < length nodes
+node_here nodes firsts now i is l =
+    let m : i < length (map (λ (n : WatchNode). lit_at n.code) nodes) = subst (λ (z : Linked). i < length z.watched) (sym is) l in rw length-map at m
+
+-- the literal that is read from a node is the one that it watches
+pub watch_read : (nodes : List WatchNode) (firsts : List ℕ) (now : Linked) (i : ℕ) (node : WatchNode) (x : Lit) → linked nodes firsts ≡ now →
+    i < length now.watched → node ≡ get_or nodes i node → x ≡ lit_at node.code → x ≡ lit_of now.watched i
+watch_read nodes firsts now i node x is l read e =
+    e ∙ (ap (λ (n : WatchNode). lit_at n.code) read
+    ∙ (sym (get_or-map (λ (n : WatchNode). lit_at n.code) nodes i node no_lit (node_here nodes firsts now i is l))
+    ∙ ap (λ (z : Linked). lit_of z.watched i) is))
+
+-- two new nodes at the end
+pub two_more : {X : Type 0} (f : WatchNode → X) (nodes kept one two : List WatchNode) (new : WatchNode) → kept ≡ nodes → one ≡ kept ++ new ∷ [] →
+    two ≡ one ++ new ∷ [] → map f two ≡ map f nodes ++ f new ∷ f new ∷ []
+two_more f nodes kept one two new e1 e2 e3 = rw (e3, e2, e1) (simp (map-append, append_assoc))
+
+pub two_longer : (nodes kept one two : List WatchNode) (new : WatchNode) → kept ≡ nodes → one ≡ kept ++ new ∷ [] → two ≡ one ++ new ∷ [] →
+    length two ≡ length nodes + 2
+two_longer nodes kept one two new e1 e2 e3 = rw (e3, e2, e1) (simp length-append (omega arith))
+
+-- what the derived comparison answers
+pub same_when : (x y : Lit) (b : Bool) → b ≡ (eqb x.var y.var && beq x.negated y.negated) → (IsTrue b → x ≡ y) × (x ≡ y → IsTrue b)
+same_when x y true e = (λ _. same_from_ne x y false (ap not e) refl, λ _. refl)
+same_when x y false e = (λ t. absurd (false≢true t), λ s. absurd (differ_from_ne x y true (ap not e) refl s))

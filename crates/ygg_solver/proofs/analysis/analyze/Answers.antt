@@ -1,4 +1,4 @@
-use Rattle.std.proofs.Common.{◌≡◌, length, arith, All, inr, inl, sym, subst, Contains, ℕ, List, [], ◌∙◌, ap}
+use Rattle.std.proofs.Common.{◌≡◌, ◌<◌, ◌≤◌, length, arith, All, inr, inl, sym, subst, Contains, ℕ, List, [], ◌∙◌, ap}
 use Rattle.ygg_cnf_set.specs.LiteralSet.{Fits}
 use Rattle.ygg_cnf.specs.Derivations.{HasClause, DerivesClause}
 use Rattle.ygg_cnf.specs.Literals.{complement}
@@ -88,3 +88,28 @@ returns-clause-clear c y = (
       p.1 (subst (λ (l : List Lit). Contains l y) (sym c.as_slice-2.ensures) ((c.in_ok-clause.ensures y).0 p.0))),
   (λ none. absurd none),
 )
+
+pub begin-requires-clause-fits : goal.begin-requires-clause-fits
+begin-requires-clause-fits c = c.requires.fits
+
+pub resolve_to_one-requires-clause-fits : goal.resolve_to_one-requires-clause-fits
+resolve_to_one-requires-clause-fits c = subst (λ (n : ℕ). All (All (Fits n)) c.args.clauses.now) (sym c.begin.auto.seen) c.requires.fits
+
+pub minimize-requires-clause-sound : goal.minimize-requires-clause-sound
+minimize-requires-clause-sound c = c.requires.sound
+
+pub minimize-requires-clause-within : goal.minimize-requires-clause-within
+minimize-requires-clause-within c = c.requires.within
+
+pub minimize-requires-clause-fits : goal.minimize-requires-clause-fits
+minimize-requires-clause-fits c =
+    subst (λ (n : ℕ). All (All (Fits n)) c.args.clauses.now) (sym (c.resolve_to_one.auto.seen ∙ c.begin.auto.seen)) c.requires.fits
+
+pub seen_below-requires : goal.seen_below-requires
+seen_below-requires c = record { within = c.requires.within }
+
+before : (a b n : ℕ) → a < b → b ≤ n → a < n
+before a b n l m = omega arith
+
+pub entry_at-requires : goal.entry_at-requires
+entry_at-requires c = before c.in-Some.first c.args.start (length c.args.trail.now) c.in-Some.ensures.below c.requires.within

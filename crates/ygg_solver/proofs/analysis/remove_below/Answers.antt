@@ -1,4 +1,4 @@
-use Rattle.std.proofs.Common.{ap, sym, subst, ◌∙◌, ℕ, All}
+use Rattle.std.proofs.Common.{◌≤◌, ◌-◌, arith, ap, sym, subst, ◌∙◌, ℕ, All}
 use Rattle.std.proofs.lemmas.Option.{same_Some}
 use Rattle.std.proofs.lemmas.Result.{IfOk-from_err}
 use Rattle.ygg_cnf_set.specs.LiteralSet.{Fits}
@@ -22,3 +22,22 @@ remove_at-requires-clause-reduced c = c.loop-place.invariant.reduced
 
 pub returns-in_err-remove_at : goal.returns-in_err-remove_at
 returns-in_err-remove_at c = IfOk-from_err c.from_residual.result _ c.from_residual.ensures.0
+
+-- one place down
+down : (n m : ℕ) → n ≤ m → n - 1 ≤ m
+down n m l = omega arith
+
+pub loop-place-preserved : goal.loop-place-preserved
+loop-place-preserved c = record { within = down c.loop-place.place c.args.start c.loop-place.invariant.within; reduced = c.loop-place.invariant.reduced }
+
+pub loop-place-preserved-in_default : goal.loop-place-preserved-in_default
+loop-place-preserved-in_default c = record {
+  within = down c.loop-place.place c.args.start c.loop-place.invariant.within;
+  reduced = c.loop-place.invariant.reduced;
+}
+
+pub loop-place-preserved-in-Continue-1 : goal.loop-place-preserved-in-Continue-1
+loop-place-preserved-in-Continue-1 c = record {
+  within = down c.loop-place.place c.args.start c.loop-place.invariant.within;
+  reduced = c.in_ok-remove_at.ensures;
+}

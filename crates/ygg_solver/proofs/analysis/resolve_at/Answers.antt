@@ -5,7 +5,7 @@ use Rattle.ygg_cnf.proofs.Steps.{one_clause, resolves_step}
 use Rattle.ygg_cnf.specs.Derivations.{HasClause, Resolvent}
 use Rattle.ygg_cnf.specs.Literals.{complement}
 use Rattle.ygg_cnf.specs.declared.lit.Lit.{Lit}
-use Rattle.ygg_solver.proofs.LearnLemmas.{numbered_within, reason_at, reason_pivot, seen_step, seen_entry}
+use Rattle.ygg_solver.proofs.LearnLemmas.{numbered_within, reason_at, reason_pivot, seen_step, seen_entry, seen_within}
 use Rattle.ygg_solver.proofs.TeachLemmas.{numbered_all}
 use Rattle.ygg_solver.proofs.analysis.resolve_at.Goals as goal
 
@@ -63,3 +63,6 @@ resolve-requires-clause-pivot c =
     let fits : Fits (length c.args.seen.now) entry.lit = All-contains (Fits (length c.args.seen.now)) lits entry.lit
     (numbered_all (All (Fits (length c.args.seen.now))) clauses c.args.id lits c.requires.fits c.clause_at-clause.ensures) reason.here in
     subst (λ (z : Lit). Fits (length c.args.seen.now) z) (sym c.complement.ensures) fits
+
+pub entry_at-entry-requires : goal.entry_at-entry-requires
+entry_at-entry-requires c = seen_within c.args.seen.now c.args.trail.now c.args.at c.requires.is_seen

@@ -1,5 +1,7 @@
-use Rattle.std.proofs.Common.{arith, ◌+◌, ℕ, sym, subst, List, length, IsSome}
-use Rattle.ygg_cnf_set.specs.LiteralSet.{InSet}
+use Rattle.std.proofs.Common.{All, ap, ◌∙◌, arith, ◌+◌, ℕ, sym, subst, List, length, IsSome}
+use Rattle.std.proofs.lemmas.Option.{same_Some}
+use Rattle.ygg_watch.specs.declared.entry.Entry.{Entry}
+use Rattle.ygg_cnf_set.specs.LiteralSet.{InSet, Fits}
 use Rattle.ygg_solver.proofs.LearnLemmas.{seen_within, none_is_some, seen_stays, chain_more, falses_step, falses_down, not_here, lower, later}
 use Rattle.ygg_solver.specs.Learning.{ChainReaches}
 use Rattle.ygg_solver.proofs.analysis.resolve_to_one.Goals as goal
@@ -52,3 +54,32 @@ unreachable-requires-in_default-reason c =
 pub returns-clause-falses : goal.returns-clause-falses
 returns-clause-falses c y m =
     later c.args.trail.now (c.loop-other.at + 1) (length c.args.trail.now) y (omega (arith, c.loop-other.invariant.within)) (c.loop-other.invariant.falses y m)
+
+pub entry_at-requires : goal.entry_at-requires
+entry_at-requires c = c.loop-other.invariant.within
+
+pub resolve_at-requires-clause-sound : goal.resolve_at-requires-clause-sound
+resolve_at-requires-clause-sound c = c.requires.sound
+
+pub resolve_at-requires-clause-fits : goal.resolve_at-requires-clause-fits
+resolve_at-requires-clause-fits c = subst (λ (n : ℕ). All (All (Fits n)) c.args.clauses.now) (sym c.loop-other.auto.seen) c.requires.fits
+
+pub resolve_at-requires-clause-is_seen : goal.resolve_at-requires-clause-is_seen
+resolve_at-requires-clause-is_seen c = c.loop-other.invariant.is_seen
+
+pub resolve_at-requires-clause-reason : goal.resolve_at-requires-clause-reason
+resolve_at-requires-clause-reason c e at =
+    ap (λ (d : Entry). d.reason) (same_Some e c.entry_at.result (sym at ∙ c.entry_at.ensures)) ∙ c.in-Some-reason.is
+
+pub resolve_at-requires-clause-falses : goal.resolve_at-requires-clause-falses
+resolve_at-requires-clause-falses c y m =
+    later c.args.trail.now (c.loop-other.at + 1) (length c.args.trail.now) y (omega (arith, c.loop-other.invariant.within)) (c.loop-other.invariant.falses y m)
+
+pub seen_from-at-requires-clause-order : goal.seen_from-at-requires-clause-order
+seen_from-at-requires-clause-order c = c.in-Some-seen_below.ensures.below
+
+pub returns-clause-found : goal.returns-clause-found
+returns-clause-found c = (c.loop-other.invariant.from, c.loop-other.invariant.is_seen)
+
+pub returns-clause-reached : goal.returns-clause-reached
+returns-clause-reached c = c.loop-other.invariant.reached

@@ -1,4 +1,5 @@
-use Rattle.std.proofs.Common.{◌≡◌, ◌<◌, ◌≤◌, length, All, List, [], ◌++◌, map, sym, subst, ap, ◌∙◌, arith, refl, inr, Contains, length-append, get_or}
+use Rattle.std.proofs.Common.{◌≡◌, ◌<◌, ◌≤◌, ◌-◌, ◌∷◌, ℕ, length, All, List, [], ◌++◌, map, sym, subst, ap, ◌∙◌, arith, refl, inr, Contains, get_or}
+use Rattle.std.proofs.Common.{length-append}
 use Rattle.std.proofs.lemmas.List.Elements.{Contains-get_or, All-push}
 use Rattle.ygg_cnf_set.specs.LiteralSet.{Fits}
 use Rattle.ygg_cnf.specs.Derivations.{HasClause, DerivesClause}
@@ -10,7 +11,7 @@ use Rattle.ygg_solver.specs.Learning.{IsLastDecision, IsJump}
 use Rattle.ygg_watch.specs.Propagation.{IsWithin, Propagation, with_clause, back_to}
 use Rattle.ygg_cnf.proofs.LogLemmas.{map_push, all_back, derives_push, teaches_push, derives_as, ends_empty, learned_more}
 use Rattle.ygg_solver.proofs.ModelLemmas.{satisfies_front, assigned_test}
-use Rattle.ygg_solver.proofs.ReadyLemmas.{conflict_in, quiet_at, false_within, fits_within, ready_jump, jump_low, jump_or, decision_within}
+use Rattle.ygg_solver.proofs.ReadyLemmas.{conflict_in, quiet_at, false_within, fits_within, ready_jump, jump_low, jump_or, decision_within, sound_in}
 use Rattle.ygg_solver.specs.Kept.{IsReady}
 use Rattle.ygg_watch.specs.Trail.{IsAt}
 use Rattle.ygg_watch.specs.declared.entry.Entry.{Entry}
@@ -181,3 +182,30 @@ analyze-requires-clause-seen g c q e h =
     let r : c.args.variable_count ≡ now.variable_count = c.loop-conflict.invariant.variable_count ∙ sym c.to_conflict.ensures.variable_count in
     let m : length c.loop-conflict.seen ≡ length c.args.seen.now = c.loop-conflict.auto.seen in
     omega (arith, w, r, m, c.requires.seen)
+
+-- one step more leaves fewer
+fewer_left : (log after : List Step) (step : Step) (budget : ℕ) → length log < budget → after ≡ log ++ step ∷ [] → budget - length after < budget - length log
+fewer_left log after step budget l e = rw e (simp length-append (omega arith))
+
+pub loop-conflict-smaller : goal.loop-conflict-smaller
+loop-conflict-smaller g c = fewer_left c.loop-conflict.log _ _ c.args.budget c.loop-conflict.invariant.left c.in_ok-push-2.ensures.ok
+
+pub refute-requires-clause-sound : goal.refute-requires-clause-sound
+refute-requires-clause-sound g c =
+    sound_in (g.P.Propagate.state c.to_conflict.new.propagation) c.clauses-held.result.now c.trail-trail.result.now (sym c.clauses-held.ensures)
+    (sym c.trail-trail.ensures) c.to_conflict.ensures.ready
+
+pub analyze-requires-clause-sound : goal.analyze-requires-clause-sound
+analyze-requires-clause-sound g c =
+    sound_in (g.P.Propagate.state c.to_conflict.new.propagation) c.clauses-held.result.now c.trail-trail.result.now (sym c.clauses-held.ensures)
+    (sym c.trail-trail.ensures) c.to_conflict.ensures.ready
+
+pub refute-requires-clause-fits : goal.refute-requires-clause-fits
+refute-requires-clause-fits g c =
+    subst (λ (l : List (List Lit)). All (All (Fits (length c.loop-conflict.seen))) l) (sym (c.clauses-held.ensures ∙ c.to_conflict.ensures.same))
+    c.loop-conflict.invariant.fits
+
+pub analyze-requires-clause-fits : goal.analyze-requires-clause-fits
+analyze-requires-clause-fits g c =
+    subst (λ (l : List (List Lit)). All (All (Fits (length c.loop-conflict.seen))) l) (sym (c.clauses-held.ensures ∙ c.to_conflict.ensures.same))
+    c.loop-conflict.invariant.fits

@@ -1,10 +1,11 @@
-use Rattle.std.proofs.Common.{◌≢◌, ◌<◌, ◌*◌, ◌+◌, sym, subst, ◌∙◌, arith, inl, inr}
+use Rattle.std.proofs.Common.{◌≡◌, true, not, ap, ◌≢◌, ◌<◌, ◌*◌, ◌+◌, sym, subst, ◌∙◌, arith, inl, inr}
 use Rattle.std.proofs.lemmas.Bool.{false≢true}
 use Rattle.ygg_cnf.specs.declared.lit.Lit.{Lit}
 use Rattle.ygg_watch.specs.Trail.{IsOnTrail}
 use Rattle.ygg_watch.proofs.StepLemmas.{watch_within, linked_from, linked_second}
 use Rattle.ygg_watch.proofs.examine.stands.Goals.{then-is_true-via-then-is_true, then-is_true-via-else-is_true+then-is_true-2}
 use Rattle.ygg_watch.specs.Lists.{lit_of}
+use Rattle.ygg_watch.specs.Propagation.{IsFalse}
 use Rattle.ygg_watch.proofs.examine.stands.Goals as goal
 
 pub is_true-requires : goal.is_true-requires
@@ -60,3 +61,25 @@ returns-then-is_true c _ =
             (subst (IsOnTrail trail) c.watch-other.ensures (w.is_true-else-is_true.ensures.0 w.if-is_true-2.true))
       ]),
     )
+
+pub watch-first-requires : goal.watch-first-requires
+watch-first-requires c = let size = c.requires.size in let at = c.requires.at in omega (arith, size, at)
+
+pub watch-other-requires : goal.watch-other-requires
+watch-other-requires c = let size = c.requires.size in let at = c.requires.at in omega (arith, size, at)
+
+pub returns-then-not-is_false : goal.returns-then-not-is_false
+returns-then-not-is_false c t =
+    let differ : lit_of c.args.links.now.watched (2 * c.args.at) ≢ lit_of c.args.links.now.watched (2 * c.args.at + 1)
+    = λ e. false≢true (sym c.if-is_unwatched.false ∙ c.is_unwatched.ensures.1 e) in
+    let trail = c.args.trail.now.entries.items in (
+      linked_from c.args.links.now.watched c.args.at differ,
+      inl (
+        λ f. false≢true (sym c.if-not-is_false.true ∙ c.is_false.ensures.1 (subst (IsFalse trail) (sym c.watch-first.ensures) f)),
+        λ f. (let e : c.is_false-then-not-is_false.result ≡ true
+            = c.is_false-then-not-is_false.ensures.1 (subst (IsFalse trail) (sym c.watch-other.ensures) f) in false≢true (sym (ap not e) ∙ t)),
+      ),
+    )
+
+pub returns-else-not-is_false : goal.returns-else-not-is_false
+returns-else-not-is_false c t = absurd (false≢true (sym (ap not c.if-not-is_false.false) ∙ t))

@@ -292,26 +292,27 @@ pub returns-in-False-clause-found : goal.returns-in-False-clause-found
 returns-in-False-clause-found c =
     (c.held_clause.result.now, (has_clause c.args.clauses.now _ c.held_clause.result.now c.held_clause.ensures, c.in-False.ensures))
 
-pub loop-at-preserved : goal.loop-at-preserved
-loop-at-preserved c =
-    let n : IsNode c.args.clauses.now c.loop-at.links.watched c.loop-at.links.next c.loop-at.links.firsts c.loop-at.trail.entries.items
+-- the node that is looked at, and what holds of the watches once it is linked again
+node_now : (c : goal.After-link-in-loop-at) →
+    IsNode c.args.clauses.now c.loop-at.links.watched c.loop-at.links.next c.loop-at.links.firsts c.loop-at.trail.entries.items
     c.loop-at.trail.variable_count
     c.args.frames.now c.args.head c.args.seen c.code-code_now.result c.loop-at.at (length c.loop-at.invariant.pending.0)
-    = node_of c.args.clauses.now c.loop-at.links.watched c.loop-at.links.next c.loop-at.links.firsts c.loop-at.trail.entries.items
+node_now c =
+    node_of c.args.clauses.now c.loop-at.links.watched c.loop-at.links.next c.loop-at.links.firsts c.loop-at.trail.entries.items
     c.loop-at.trail.variable_count
     c.args.frames.now c.args.head c.args.seen c.code-code_now.result c.loop-at.at
     c.loop-at.invariant.pending.0 c.loop-at.invariant.pending.1.0 c.loop-at.invariant.pending.1.1.0 c.loop-at.invariant.pending.1.1.1
-    c.loop-at-test.true in
-    let o = n.own.0 in let size = n.live.watched_size in let next_size = n.live.next_size in
-    let other : c.watch-other.result ≡ lit_of c.loop-at.links.watched (sibling (c.loop-at.at - 1)) = c.watch-other.ensures
-    ∙ ap (lit_of c.loop-at.links.watched) c.sibling_of.ensures in
-    let here : Contains c.held_clause.result.now (lit_of c.loop-at.links.watched (sibling (c.loop-at.at - 1)))
-    = other_here c.args.clauses.now c.loop-at.links.watched (c.loop-at.at - 1) c.code-code_now.result c.held_clause.result.now size n.live.member n.own
-    c.held_clause.ensures in
-    let after : IsAfter c.args.clauses.now c.link-in-loop-at.new.self.watched c.link-in-loop-at.new.self.next c.link-in-loop-at.new.self.firsts
+    c.loop-at-test.true
+
+after_now : (c : goal.After-link-in-loop-at) →
+    IsAfter c.args.clauses.now c.link-in-loop-at.new.self.watched c.link-in-loop-at.new.self.next c.link-in-loop-at.new.self.firsts
     c.match-judge.trail.entries.items c.match-judge.trail.variable_count c.args.frames.now c.args.head c.args.seen c.code-code_now.result
     c.next-at.result (length c.loop-at.invariant.pending.0)
-    = elim c.match-judge.branch [
+after_now c =
+    let n = node_now c in
+    let other : c.watch-other.result ≡ lit_of c.loop-at.links.watched (sibling (c.loop-at.at - 1)) = c.watch-other.ensures
+    ∙ ap (lit_of c.loop-at.links.watched) c.sibling_of.ensures in
+    elim c.match-judge.branch [
       | in-Keep w ↦ after_same c.args.clauses.now _ c.link-in-loop-at.new.self.watched _ c.link-in-loop-at.new.self.next _
           c.link-in-loop-at.new.self.firsts _
           c.match-judge.trail.entries.items _ c.match-judge.trail.variable_count c.args.frames.now c.args.head c.args.seen c.code-code_now.result _
@@ -361,7 +362,18 @@ loop-at-preserved c =
           c.match-judge.trail.entries.items c.loop-at.trail.variable_count c.args.frames.now c.args.head c.args.seen c.code-code_now.result c.loop-at.at
           (length c.loop-at.invariant.pending.0) _ n c.loop-at.invariant.code_within
           (ap (λ (t : Assignments). t.entries.items) w.trail-is ∙ w.push.ensures.entries) other)
-    ] in
+    ]
+
+pub loop-at-preserved : goal.loop-at-preserved
+loop-at-preserved c =
+    let n = node_now c in
+    let size = n.live.watched_size in
+    let other : c.watch-other.result ≡ lit_of c.loop-at.links.watched (sibling (c.loop-at.at - 1)) = c.watch-other.ensures
+    ∙ ap (lit_of c.loop-at.links.watched) c.sibling_of.ensures in
+    let here : Contains c.held_clause.result.now (lit_of c.loop-at.links.watched (sibling (c.loop-at.at - 1)))
+    = other_here c.args.clauses.now c.loop-at.links.watched (c.loop-at.at - 1) c.code-code_now.result c.held_clause.result.now size n.live.member n.own
+    c.held_clause.ensures in
+    let after = after_now c in
     let counts : c.match-judge.trail.variable_count ≡ c.loop-at.trail.variable_count
     = elim c.match-judge.branch [
       | in-Keep w ↦ ap (λ (t : Assignments). t.variable_count) w.trail-is
@@ -414,74 +426,9 @@ loop-at-preserved c =
 
 pub loop-at-smaller : goal.loop-at-smaller
 loop-at-smaller c =
-    let n : IsNode c.args.clauses.now c.loop-at.links.watched c.loop-at.links.next c.loop-at.links.firsts c.loop-at.trail.entries.items
-    c.loop-at.trail.variable_count
-    c.args.frames.now c.args.head c.args.seen c.code-code_now.result c.loop-at.at (length c.loop-at.invariant.pending.0)
-    = node_of c.args.clauses.now c.loop-at.links.watched c.loop-at.links.next c.loop-at.links.firsts c.loop-at.trail.entries.items
-    c.loop-at.trail.variable_count
-    c.args.frames.now c.args.head c.args.seen c.code-code_now.result c.loop-at.at
-    c.loop-at.invariant.pending.0 c.loop-at.invariant.pending.1.0 c.loop-at.invariant.pending.1.1.0 c.loop-at.invariant.pending.1.1.1
-    c.loop-at-test.true in
-    let o = n.own.0 in let size = n.live.watched_size in let next_size = n.live.next_size in
-    let other : c.watch-other.result ≡ lit_of c.loop-at.links.watched (sibling (c.loop-at.at - 1)) = c.watch-other.ensures
-    ∙ ap (lit_of c.loop-at.links.watched) c.sibling_of.ensures in
-    let here : Contains c.held_clause.result.now (lit_of c.loop-at.links.watched (sibling (c.loop-at.at - 1)))
-    = other_here c.args.clauses.now c.loop-at.links.watched (c.loop-at.at - 1) c.code-code_now.result c.held_clause.result.now size n.live.member n.own
-    c.held_clause.ensures in
-    let after : IsAfter c.args.clauses.now c.link-in-loop-at.new.self.watched c.link-in-loop-at.new.self.next c.link-in-loop-at.new.self.firsts
-    c.match-judge.trail.entries.items c.match-judge.trail.variable_count c.args.frames.now c.args.head c.args.seen c.code-code_now.result
-    c.next-at.result (length c.loop-at.invariant.pending.0)
-    = elim c.match-judge.branch [
-      | in-Keep w ↦ after_same c.args.clauses.now _ c.link-in-loop-at.new.self.watched _ c.link-in-loop-at.new.self.next _
-          c.link-in-loop-at.new.self.firsts _
-          c.match-judge.trail.entries.items _ c.match-judge.trail.variable_count c.args.frames.now c.args.head c.args.seen c.code-code_now.result _
-          c.next-at.result (length c.loop-at.invariant.pending.0) (c.link-in-loop-at.ensures.watched ∙ ap (λ (l : Linked). l.watched) w.links-is)
-          (next_linked c.match-judge.links c.loop-at.links _ _ _ _ c.link-in-loop-at.ensures.next (ap (λ (l : Linked). l.next) w.links-is)
-          (ap (λ (l : Linked). l.firsts) w.links-is) w.to-is)
-          (firsts_linked c.match-judge.links c.loop-at.links _ _ _ _ c.link-in-loop-at.ensures.firsts (ap (λ (l : Linked). l.firsts) w.links-is) w.to-is)
-          (ap (λ (t : Assignments). t.entries.items) w.trail-is) (ap (λ (t : Assignments). t.variable_count) w.trail-is) c.next-at.ensures.next
-          (after_keep c.args.clauses.now c.loop-at.links.watched c.loop-at.links.next c.loop-at.links.firsts c.loop-at.trail.entries.items
-          c.loop-at.trail.variable_count
-          c.args.frames.now c.args.head c.args.seen c.code-code_now.result c.loop-at.at
-          (length c.loop-at.invariant.pending.0) n c.loop-at.invariant.code_within
-          (subst (IsOnTrail c.loop-at.trail.entries.items) other (rw w.in-Keep.is at c.judge.ensures)))
-      | in-Move w ↦ (let judged = rw w.in-Move.is at c.judge.ensures in
-          let v : w.in-Move.lit.var < c.loop-at.trail.variable_count =
-          lit_within c.args.clauses.now c.loop-at.trail.variable_count _ c.held_clause.result.now w.in-Move.lit n.live.variables c.held_clause.ensures
-          judged.0 in
-          after_same c.args.clauses.now _ c.link-in-loop-at.new.self.watched _ c.link-in-loop-at.new.self.next _ c.link-in-loop-at.new.self.firsts _
-          c.match-judge.trail.entries.items _ c.match-judge.trail.variable_count c.args.frames.now c.args.head c.args.seen c.code-code_now.result _
-          c.next-at.result (length c.loop-at.invariant.pending.0) (c.link-in-loop-at.ensures.watched ∙ (ap (λ (l : Linked). l.watched) (w.links-is ∙
-          w.set_start.ensures) ∙
-          w.set_watch.ensures.watched))
-          (next_linked c.match-judge.links c.loop-at.links _ _ _ _ c.link-in-loop-at.ensures.next
-          (ap (λ (l : Linked). l.next) (w.links-is ∙ w.set_start.ensures) ∙ w.set_watch.ensures.next)
-          (ap (λ (l : Linked). l.firsts) (w.links-is ∙ w.set_start.ensures) ∙ w.set_watch.ensures.firsts) (w.to-is ∙ w.code-to.ensures.code))
-          (firsts_linked c.match-judge.links c.loop-at.links _ _ _ _ c.link-in-loop-at.ensures.firsts
-          (ap (λ (l : Linked). l.firsts) (w.links-is ∙ w.set_start.ensures) ∙ w.set_watch.ensures.firsts) (w.to-is ∙ w.code-to.ensures.code))
-          (ap (λ (t : Assignments). t.entries.items) w.trail-is) (ap (λ (t : Assignments). t.variable_count) w.trail-is) c.next-at.ensures.next
-          (after_move c.args.clauses.now c.loop-at.links.watched c.loop-at.links.next c.loop-at.links.firsts c.loop-at.trail.entries.items
-          c.loop-at.trail.variable_count
-          c.args.frames.now c.args.head c.args.seen c.code-code_now.result c.loop-at.at
-          (length c.loop-at.invariant.pending.0) w.in-Move.lit c.held_clause.result.now n c.loop-at.trail.trail
-          (fits_below w.in-Move.lit c.loop-at.trail.variable_count (length c.loop-at.links.firsts) v n.live.firsts_size)
-          (false_at c.loop-at.links.watched c.loop-at.trail.entries.items c.code-code_now.result
-          (c.loop-at.at - 1) c.args.lit c.args.head c.loop-at.invariant.code n.own c.loop-at.invariant.entry)
-          judged.1.1 (λ e. judged.1.0 (e ∙ sym other)) c.held_clause.ensures judged.0))
-      | in-Imply w ↦ after_same c.args.clauses.now _ c.link-in-loop-at.new.self.watched _ c.link-in-loop-at.new.self.next _
-          c.link-in-loop-at.new.self.firsts _
-          c.match-judge.trail.entries.items _ c.match-judge.trail.variable_count c.args.frames.now c.args.head c.args.seen c.code-code_now.result _
-          c.next-at.result (length c.loop-at.invariant.pending.0) (c.link-in-loop-at.ensures.watched ∙ ap (λ (l : Linked). l.watched) w.links-is)
-          (next_linked c.match-judge.links c.loop-at.links _ _ _ _ c.link-in-loop-at.ensures.next (ap (λ (l : Linked). l.next) w.links-is)
-          (ap (λ (l : Linked). l.firsts) w.links-is) w.to-is)
-          (firsts_linked c.match-judge.links c.loop-at.links _ _ _ _ c.link-in-loop-at.ensures.firsts (ap (λ (l : Linked). l.firsts) w.links-is)
-          w.to-is) refl
-          (ap (λ (t : Assignments). t.variable_count) w.trail-is ∙ w.push.ensures.variable_count) c.next-at.ensures.next
-          (after_imply c.args.clauses.now c.loop-at.links.watched c.loop-at.links.next c.loop-at.links.firsts c.loop-at.trail.entries.items
-          c.match-judge.trail.entries.items c.loop-at.trail.variable_count c.args.frames.now c.args.head c.args.seen c.code-code_now.result c.loop-at.at
-          (length c.loop-at.invariant.pending.0) _ n c.loop-at.invariant.code_within
-          (ap (λ (t : Assignments). t.entries.items) w.trail-is ∙ w.push.ensures.entries) other)
-    ] in
+    let n = node_now c in
+    let size = n.live.watched_size in let next_size = n.live.next_size in
+    let after = after_now c in
     let before : walk (length c.loop-at.links.next) c.loop-at.links.next c.loop-at.at ≡ length c.loop-at.invariant.pending.0
     = walk_pending c.loop-at.links.next c.loop-at.links.watched c.loop-at.at c.code-code_now.result c.loop-at.invariant.pending.0
     (omega (arith, size, next_size)) c.loop-at.invariant.pending.1.0 in
@@ -496,3 +443,17 @@ code-code_now-requires c =
     let entry = c.requires.entry in
     let below : entry.0.lit.var < c.args.trail.now.variable_count = c.args.trail.now.trail.within c.args.head entry.0 entry.1.0 in
     let same : entry.0.lit.var ≡ c.args.lit.var = ap (λ (z : Lit). z.var) entry.1.1 in omega (arith, below, same)
+
+pub push-requires-clause-fresh : goal.push-requires-clause-fresh
+push-requires-clause-fresh c = c.in-Imply.ensures.0
+
+pub link-requires-in-loop-at-clause-code : goal.link-requires-in-loop-at-clause-code
+link-requires-in-loop-at-clause-code c = elim c.match-judge.branch [
+  | in-Keep w ↦ rw (w.links-is, w.to-is) c.loop-at.invariant.code_within
+  | in-Move w ↦ rw (w.links-is, w.set_start.ensures, w.set_watch.ensures.firsts, w.to-is)
+      (let size = c.loop-at.invariant.pending.1.1.0.firsts_size in let within = w.code-to.ensures.within in omega (arith, size, within))
+  | in-Imply w ↦ rw (w.links-is, w.to-is) c.loop-at.invariant.code_within
+]
+
+pub put_back-requires-clause-code : goal.put_back-requires-clause-code
+put_back-requires-clause-code c = rw (c.link.ensures.firsts, length-set) c.loop-at.invariant.code_within

@@ -43,3 +43,12 @@ returns-clause-err c =
     let (more, grew) = c.enter_all.ensures.grows in
     let kept = kept_more c.self.inside.store.variables c.enter_all.new.variables more grew c.self.inside.store.clauses c.self.invariant.kept.placed in
     on_err_weaker c.push.result (λ e. ap (clauses_at c.enter_all.new.variables) e ∙ kept.1 ∙ c.self.view_is) c.push.ensures.err
+
+pub invariant_of-self : goal.invariant_of-self
+invariant_of-self c =
+    let (more, grew) = c.enter_all.ensures.grows in
+    let kept = kept_more c.self.inside.store.variables c.enter_all.new.variables more grew c.self.inside.store.clauses c.self.invariant.kept.placed in
+    record {
+      kept = record { distinct = c.enter_all.ensures.distinct; placed = kept.0; room = c.enter_all.ensures.room };
+      clear = λ y. ((λ m. (c.self.invariant.clear y).0 ((c.enter_all.ensures.seen y).0 m)), (λ none. absurd none));
+    }

@@ -68,3 +68,12 @@ pub returns-clause-some : goal.returns-clause-some
 returns-clause-some c =
     let (count, some) = c.push_made.ensures.some in
     (count, held_more c (take count c.args.patterns.now) (All-take (IsPattern (length c.as_slice.result.now)) count c.args.patterns.now (fit c)) some)
+
+pub invariant_of-self : goal.invariant_of-self
+invariant_of-self c =
+    let (more, grew) = c.enter_all.ensures.grows in
+    let kept = kept_more c.self.inside.store.variables c.enter_all.new.variables more grew c.self.inside.store.clauses c.self.invariant.kept.placed in
+    record {
+      kept = record { distinct = c.enter_all.ensures.distinct; placed = kept.0; room = c.enter_all.ensures.room };
+      clear = λ y. ((λ m. (c.self.invariant.clear y).0 ((c.enter_all.ensures.seen y).0 m)), (λ none. absurd none));
+    }

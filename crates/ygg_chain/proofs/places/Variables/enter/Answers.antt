@@ -1,5 +1,5 @@
-use Rattle.std.proofs.Common.{sym, arith}
-use Rattle.ygg_chain.proofs.TableLemmas.{distinct_indexed, place_stands, last_stands}
+use Rattle.std.proofs.Common.{ℕ, List, Contains, sym, subst, arith, length-append}
+use Rattle.ygg_chain.proofs.TableLemmas.{distinct_indexed, place_stands, last_stands, absent}
 use Rattle.ygg_chain.proofs.places.Variables.enter.Goals as goal
 use Rattle.ygg_chain.proofs.places.Variables.enter.Goals.{in-Some, in-None+in_ok-place-in-None}
 
@@ -30,4 +30,15 @@ returns-clause-small c = elim c.match-get.branch [
       omega (arith, inside, few)
       )
   | in-None+in_ok-place-in-None w ↦ rw w.place-is w.in_ok-place-in-None.ensures.small
+]
+
+pub add-requires : goal.add-requires
+add-requires c has =
+    absent c.self.inside.places c.self.inside.order.items c.self.invariant.0 c.args.lit.var (sym c.in-None.ensures)
+    (subst (λ (l : List ℕ). Contains l c.args.lit.var) (sym c.self.view_is) has)
+
+pub returns-clause-one : goal.returns-clause-one
+returns-clause-one c = elim c.match-get.branch [
+  | in-Some w ↦ rw w.self-is (omega arith)
+  | in-None+in_ok-place-in-None w ↦ rw (w.self-is, w.in_ok-place-in-None.ensures.ok) (simp length-append (omega arith))
 ]

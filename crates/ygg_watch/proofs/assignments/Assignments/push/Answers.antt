@@ -1,4 +1,4 @@
-use Rattle.std.proofs.Common.{◌≡◌, ◌∙◌, length, arith, sym, ap, subst, List, Bool, ◌⊎◌}
+use Rattle.std.proofs.Common.{◌≡◌, refl, ◌∙◌, length, arith, sym, ap, subst, List, Bool, ◌⊎◌}
 use Rattle.ygg_cnf_set.specs.LiteralSet.{InSet, IsSetOf}
 use Rattle.ygg_watch.proofs.AssignmentLemmas.{has_place, trail_push, levelled_push, levels_within, kept_pushed}
 use Rattle.ygg_watch.specs.Assignments.{IsTrail, IsLevelled}
@@ -43,3 +43,20 @@ invariant_of-self-clause-kept c =
     (c.insert.auto.seen ∙ ap (λ (l : List Bool). length l) c.as_mut_slice.ensures.value) c.args.self.now.truth.ok.0
     (subst (λ (l : List Bool). IsSetOf c.insert.new.seen (λ y. InSet l y ⊎ (y ≡ c.args.lit))) c.as_mut_slice.ensures.value c.insert.ensures)
     (rw c.of.ensures at c.push_reserved.ensures.items) (let k = c.args.self.now.entries.ok in let e = c.len-place.ensures in omega (arith, k, e))
+
+pub of-requires-clause-lit : goal.of-requires-clause-lit
+of-requires-clause-lit c = let w = c.requires.within in let s = c.args.self.now.small in omega (arith, w, s)
+
+pub of-requires-clause-reason : goal.of-requires-clause-reason
+of-requires-clause-reason c = c.requires.reason
+
+pub insert-requires : goal.insert-requires
+insert-requires c =
+    rw c.as_mut_slice.ensures.value (let s = c.args.self.now.kept.size in let w = c.requires.within in omega (arith, s, w))
+
+pub index_mut-requires : goal.index_mut-requires
+index_mut-requires c =
+    let s = c.args.self.now.kept.places_size in let k = c.args.self.now.places.ok.0 in let w = c.requires.within in omega (arith, s, k, w)
+
+pub returns-clause-entries : goal.returns-clause-entries
+returns-clause-entries c = rw (c.push_reserved.ensures.items, c.of.ensures, c.len-level.ensures, c.args.self.now.starts.ok.0) refl

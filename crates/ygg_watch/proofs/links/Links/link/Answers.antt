@@ -44,3 +44,13 @@ invariant_of-self c = (rw length-set c.self.invariant.0, rw length-set c.self.in
 
 pub returns-clause-firsts : goal.returns-clause-firsts
 returns-clause-firsts c = ap (λ (z : Linked). set z.firsts c.args.code (c.args.node + 1)) c.self.view_is
+
+pub index-requires : goal.index-requires
+index-requires c =
+    let r : c.args.code < length c.self.inside.firsts.items = rw (← c.self.view_is) at c.requires.code in
+    let len = c.self.inside.firsts.ok.0 in omega (arith, r, len)
+
+pub index_mut-requires-2 : goal.index_mut-requires-2
+index_mut-requires-2 c =
+    let r : c.args.code < length c.self.inside.firsts.items = rw (← c.self.view_is) at c.requires.code in
+    let len = c.self.inside.firsts.ok.0 in omega (arith, r, len)
