@@ -1,5 +1,29 @@
 -- Values of which a part was written.
-use Rattle.std.proofs.Common.{◌≡◌, ℕ, ◌<◌, true, false, ◌==◌, ◌&&◌, List, [], ◌∷◌, map, length, get_or, refl, sym, ap, ◌∙◌, subst, arith, eqb-true, Result, Ok, Err}
+use Rattle.std.proofs.Common.{
+  ◌≡◌,
+  ℕ,
+  ◌<◌,
+  true,
+  false,
+  ◌==◌,
+  ◌&&◌,
+  List,
+  [],
+  ◌∷◌,
+  map,
+  length,
+  get_or,
+  refl,
+  sym,
+  ap,
+  ◌∙◌,
+  subst,
+  arith,
+  eqb-true,
+  Result,
+  Ok,
+  Err,
+}
 use Rattle.std.specs.Prelude.{OnOk, OnErr, IsErr}
 use Rattle.ygg_value.specs.declared.shape.Shape.{Shape}
 use Rattle.ygg_value.specs.declared.shape.Shape.TheVariants as shape

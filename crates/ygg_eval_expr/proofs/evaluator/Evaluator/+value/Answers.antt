@@ -503,7 +503,8 @@ pub value-returns-in_err-b-in-Pick : goal.value-returns-in_err-b-in-Pick
 value-returns-in_err-b-in-Pick t c = IfOk-from_err c.from_residual-in_err-b-in-Pick.result _ c.from_residual-in_err-b-in-Pick.ensures.0
 
 pub value-returns-in_err-holds-in-Quantified : goal.value-returns-in_err-holds-in-Quantified
-value-returns-in_err-holds-in-Quantified t c = IfOk-from_err c.from_residual-in_err-holds-in-Quantified.result _ c.from_residual-in_err-holds-in-Quantified.ensures.0
+value-returns-in_err-holds-in-Quantified t c = IfOk-from_err c.from_residual-in_err-holds-in-Quantified.result _
+    c.from_residual-in_err-holds-in-Quantified.ensures.0
 
 pub value-returns-in_err-i-in-At : goal.value-returns-in_err-i-in-At
 value-returns-in_err-i-in-At t c = IfOk-from_err c.from_residual-in_err-i-in-At.result _ c.from_residual-in_err-i-in-At.ensures.0
