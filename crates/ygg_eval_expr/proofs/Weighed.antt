@@ -162,3 +162,12 @@ rest_lighter ws (e ∷ es) i h =
     let more = ap (exprs_weight ws) (drop_more (e ∷ es) i e h)
     ∙ sum_cons (expr_weight ws (get_or (e ∷ es) i e)) (map (expr_weight ws) (drop (i + 1) (e ∷ es))) in
     omega arith
+
+-- an expression weighs no more than those from it on
+pub item_lighter : (ws : Weights) (es : List Expr) (i : ℕ) (e : Expr) → i < length es → e ≡ get_or es i e
+    → expr_weight ws e ≤ exprs_weight ws (drop i es)
+item_lighter ws es i e h is =
+    let here = ap (expr_weight ws) is in
+    let more = ap (exprs_weight ws) (drop_more es i e h)
+    ∙ sum_cons (expr_weight ws (get_or es i e)) (map (expr_weight ws) (drop (i + 1) es)) in
+    omega arith

@@ -7,3 +7,4 @@ pub mod Leaving
 pub mod Lasting
 pub mod Stands
 pub mod Asked
+pub mod Calls

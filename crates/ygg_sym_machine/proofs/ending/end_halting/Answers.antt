@@ -7,6 +7,8 @@ use Rattle.ygg_sym_runs.specs.Stops.{before_at}
 use Rattle.ygg_sym_runs.specs.StopTerms.{SymFallen}
 use Rattle.ygg_sym_machine.specs.Stopping.{stops_on}
 use Rattle.ygg_sym_machine.proofs.Chains.{fall_from}
+use Rattle.std.proofs.lemmas.Result.{IfOk-from_err}
+use Rattle.ygg_sym_machine.proofs.Calls.{on_ok_refused}
 use Rattle.ygg_sym_machine.proofs.ending.end_halting.Goals as goal
 
 pub bit-requires : goal.bit-requires
@@ -125,3 +127,114 @@ returns-clause-reached g c =
     (c.in_ok-again.ensures.form ∙ ap (λ n. (K2.bit n c.last_left.new.bank).value) c.in_ok-number.ensures)
     (c.in_ok-again.ensures.nodes ∙ ap (λ n. (K2.bit n c.last_left.new.bank).nodes) c.in_ok-number.ensures)
     c.in_ok-reached.ensures.form c.in_ok-reached.ensures.nodes)
+
+pub returns-in_err-number-clause-nodes : goal.returns-in_err-number-clause-nodes
+returns-in_err-number-clause-nodes g c = on_ok_refused c.from_residual.result _ c.from_residual.ensures.0
+
+pub returns-in_err-number-clause-single : goal.returns-in_err-number-clause-single
+returns-in_err-number-clause-single g c = on_ok_refused c.from_residual.result _ c.from_residual.ensures.0
+
+pub returns-in_err-number-clause-left : goal.returns-in_err-number-clause-left
+returns-in_err-number-clause-left g c = IfOk-from_err c.from_residual.result _ c.from_residual.ensures.0
+
+pub returns-in_err-number-clause-reached : goal.returns-in_err-number-clause-reached
+returns-in_err-number-clause-reached g c = IfOk-from_err c.from_residual.result _ c.from_residual.ensures.0
+
+pub returns-in_err-number-clause-has : goal.returns-in_err-number-clause-has
+returns-in_err-number-clause-has g c = IfOk-from_err c.from_residual.result _ c.from_residual.ensures.0
+
+pub returns-in_err-number-clause-width : goal.returns-in_err-number-clause-width
+returns-in_err-number-clause-width g c = IfOk-from_err c.from_residual.result _ c.from_residual.ensures.0
+
+pub returns-in_err-number-clause-bank : goal.returns-in_err-number-clause-bank
+returns-in_err-number-clause-bank g c = c.len.ensures.bank
+
+pub returns-in_err-here-clause-nodes : goal.returns-in_err-here-clause-nodes
+returns-in_err-here-clause-nodes g c = on_ok_refused c.from_residual-in_err-here.result _ c.from_residual-in_err-here.ensures.0
+
+pub returns-in_err-here-clause-single : goal.returns-in_err-here-clause-single
+returns-in_err-here-clause-single g c = on_ok_refused c.from_residual-in_err-here.result _ c.from_residual-in_err-here.ensures.0
+
+pub returns-in_err-here-clause-left : goal.returns-in_err-here-clause-left
+returns-in_err-here-clause-left g c = IfOk-from_err c.from_residual-in_err-here.result _ c.from_residual-in_err-here.ensures.0
+
+pub returns-in_err-here-clause-reached : goal.returns-in_err-here-clause-reached
+returns-in_err-here-clause-reached g c = IfOk-from_err c.from_residual-in_err-here.result _ c.from_residual-in_err-here.ensures.0
+
+pub returns-in_err-here-clause-has : goal.returns-in_err-here-clause-has
+returns-in_err-here-clause-has g c = IfOk-from_err c.from_residual-in_err-here.result _ c.from_residual-in_err-here.ensures.0
+
+pub returns-in_err-here-clause-width : goal.returns-in_err-here-clause-width
+returns-in_err-here-clause-width g c = IfOk-from_err c.from_residual-in_err-here.result _ c.from_residual-in_err-here.ensures.0
+
+pub returns-in_err-here-clause-bank : goal.returns-in_err-here-clause-bank
+returns-in_err-here-clause-bank g c = c.bit.ensures.bank
+
+pub returns-in_err-left-clause-nodes : goal.returns-in_err-left-clause-nodes
+returns-in_err-left-clause-nodes g c = on_ok_refused c.from_residual-in_err-left.result _ c.from_residual-in_err-left.ensures.0
+
+pub returns-in_err-left-clause-single : goal.returns-in_err-left-clause-single
+returns-in_err-left-clause-single g c = on_ok_refused c.from_residual-in_err-left.result _ c.from_residual-in_err-left.ensures.0
+
+pub returns-in_err-left-clause-left : goal.returns-in_err-left-clause-left
+returns-in_err-left-clause-left g c = IfOk-from_err c.from_residual-in_err-left.result _ c.from_residual-in_err-left.ensures.0
+
+pub returns-in_err-left-clause-reached : goal.returns-in_err-left-clause-reached
+returns-in_err-left-clause-reached g c = IfOk-from_err c.from_residual-in_err-left.result _ c.from_residual-in_err-left.ensures.0
+
+pub returns-in_err-left-clause-has : goal.returns-in_err-left-clause-has
+returns-in_err-left-clause-has g c = IfOk-from_err c.from_residual-in_err-left.result _ c.from_residual-in_err-left.ensures.0
+
+pub returns-in_err-left-clause-width : goal.returns-in_err-left-clause-width
+returns-in_err-left-clause-width g c = IfOk-from_err c.from_residual-in_err-left.result _ c.from_residual-in_err-left.ensures.0
+
+pub returns-in_err-left-clause-bank : goal.returns-in_err-left-clause-bank
+returns-in_err-left-clause-bank g c = c.last_left.ensures.bank
+
+pub returns-in_err-again-clause-nodes : goal.returns-in_err-again-clause-nodes
+returns-in_err-again-clause-nodes g c = on_ok_refused c.from_residual-in_err-again.result _ c.from_residual-in_err-again.ensures.0
+
+pub returns-in_err-again-clause-single : goal.returns-in_err-again-clause-single
+returns-in_err-again-clause-single g c = on_ok_refused c.from_residual-in_err-again.result _ c.from_residual-in_err-again.ensures.0
+
+pub returns-in_err-again-clause-left : goal.returns-in_err-again-clause-left
+returns-in_err-again-clause-left g c = IfOk-from_err c.from_residual-in_err-again.result _ c.from_residual-in_err-again.ensures.0
+
+pub returns-in_err-again-clause-reached : goal.returns-in_err-again-clause-reached
+returns-in_err-again-clause-reached g c = IfOk-from_err c.from_residual-in_err-again.result _ c.from_residual-in_err-again.ensures.0
+
+pub returns-in_err-again-clause-has : goal.returns-in_err-again-clause-has
+returns-in_err-again-clause-has g c = IfOk-from_err c.from_residual-in_err-again.result _ c.from_residual-in_err-again.ensures.0
+
+pub returns-in_err-again-clause-width : goal.returns-in_err-again-clause-width
+returns-in_err-again-clause-width g c = IfOk-from_err c.from_residual-in_err-again.result _ c.from_residual-in_err-again.ensures.0
+
+pub returns-in_err-again-clause-bank : goal.returns-in_err-again-clause-bank
+returns-in_err-again-clause-bank g c = c.bit-2.ensures.bank
+
+pub returns-in_err-reached-clause-nodes : goal.returns-in_err-reached-clause-nodes
+returns-in_err-reached-clause-nodes g c = on_ok_refused c.from_residual-in_err-reached.result _ c.from_residual-in_err-reached.ensures.0
+
+pub returns-in_err-reached-clause-single : goal.returns-in_err-reached-clause-single
+returns-in_err-reached-clause-single g c = on_ok_refused c.from_residual-in_err-reached.result _ c.from_residual-in_err-reached.ensures.0
+
+pub returns-in_err-reached-clause-left : goal.returns-in_err-reached-clause-left
+returns-in_err-reached-clause-left g c = IfOk-from_err c.from_residual-in_err-reached.result _ c.from_residual-in_err-reached.ensures.0
+
+pub returns-in_err-reached-clause-reached : goal.returns-in_err-reached-clause-reached
+returns-in_err-reached-clause-reached g c = IfOk-from_err c.from_residual-in_err-reached.result _ c.from_residual-in_err-reached.ensures.0
+
+pub returns-in_err-reached-clause-has : goal.returns-in_err-reached-clause-has
+returns-in_err-reached-clause-has g c = IfOk-from_err c.from_residual-in_err-reached.result _ c.from_residual-in_err-reached.ensures.0
+
+pub returns-in_err-reached-clause-width : goal.returns-in_err-reached-clause-width
+returns-in_err-reached-clause-width g c = IfOk-from_err c.from_residual-in_err-reached.result _ c.from_residual-in_err-reached.ensures.0
+
+pub returns-in_err-reached-clause-bank : goal.returns-in_err-reached-clause-bank
+returns-in_err-reached-clause-bank g c = c.either.ensures.bank
+
+pub returns-clause-bank : goal.returns-clause-bank
+returns-clause-bank g c = c.either.ensures.bank
+
+pub returns-clause-width : goal.returns-clause-width
+returns-clause-width g c = c.in_ok-reached.ensures.width

@@ -9,6 +9,8 @@ use Rattle.ygg_sym_runs.specs.Stops.{before_at, within_at}
 use Rattle.ygg_sym_runs.specs.StopTerms.{SymHalted, sym_left}
 use Rattle.ygg_sym_machine.specs.Stopping.{stops_on}
 use Rattle.ygg_sym_machine.proofs.Chains.{halted_from}
+use Rattle.std.proofs.lemmas.Result.{IfOk-from_err}
+use Rattle.ygg_sym_machine.proofs.Calls.{on_ok_refused}
 use Rattle.ygg_sym_machine.proofs.stopping.ask_halting.Goals as goal
 
 pub left-requires-clause-asks : goal.left-requires-clause-asks
@@ -186,3 +188,126 @@ either-requires-2-clause-one g c = c.in_ok-some.ensures.width
 
 pub returns-in_err-here-clause-grows : goal.returns-in_err-here-clause-grows
 returns-in_err-here-clause-grows g c = c.bit.ensures.grows
+
+pub returns-in_err-before-clause-nodes : goal.returns-in_err-before-clause-nodes
+returns-in_err-before-clause-nodes g c = on_ok_refused c.from_residual.result _ c.from_residual.ensures.0
+
+pub returns-in_err-before-clause-single : goal.returns-in_err-before-clause-single
+returns-in_err-before-clause-single g c = on_ok_refused c.from_residual.result _ c.from_residual.ensures.0
+
+pub returns-in_err-before-clause-answer : goal.returns-in_err-before-clause-answer
+returns-in_err-before-clause-answer g c = IfOk-from_err c.from_residual.result _ c.from_residual.ensures.0
+
+pub returns-in_err-before-clause-state : goal.returns-in_err-before-clause-state
+returns-in_err-before-clause-state g c = IfOk-from_err c.from_residual.result _ c.from_residual.ensures.0
+
+pub returns-in_err-before-clause-bank : goal.returns-in_err-before-clause-bank
+returns-in_err-before-clause-bank g c = c.len.ensures.bank
+
+pub returns-in_err-here-clause-nodes : goal.returns-in_err-here-clause-nodes
+returns-in_err-here-clause-nodes g c = on_ok_refused c.from_residual-in_err-here.result _ c.from_residual-in_err-here.ensures.0
+
+pub returns-in_err-here-clause-single : goal.returns-in_err-here-clause-single
+returns-in_err-here-clause-single g c = on_ok_refused c.from_residual-in_err-here.result _ c.from_residual-in_err-here.ensures.0
+
+pub returns-in_err-here-clause-answer : goal.returns-in_err-here-clause-answer
+returns-in_err-here-clause-answer g c = IfOk-from_err c.from_residual-in_err-here.result _ c.from_residual-in_err-here.ensures.0
+
+pub returns-in_err-here-clause-state : goal.returns-in_err-here-clause-state
+returns-in_err-here-clause-state g c = IfOk-from_err c.from_residual-in_err-here.result _ c.from_residual-in_err-here.ensures.0
+
+pub returns-in_err-here-clause-bank : goal.returns-in_err-here-clause-bank
+returns-in_err-here-clause-bank g c = c.bit.ensures.bank
+
+pub returns-in_err-within-clause-nodes : goal.returns-in_err-within-clause-nodes
+returns-in_err-within-clause-nodes g c = on_ok_refused c.from_residual-in_err-within.result _ c.from_residual-in_err-within.ensures.0
+
+pub returns-in_err-within-clause-single : goal.returns-in_err-within-clause-single
+returns-in_err-within-clause-single g c = on_ok_refused c.from_residual-in_err-within.result _ c.from_residual-in_err-within.ensures.0
+
+pub returns-in_err-within-clause-answer : goal.returns-in_err-within-clause-answer
+returns-in_err-within-clause-answer g c = IfOk-from_err c.from_residual-in_err-within.result _ c.from_residual-in_err-within.ensures.0
+
+pub returns-in_err-within-clause-state : goal.returns-in_err-within-clause-state
+returns-in_err-within-clause-state g c = IfOk-from_err c.from_residual-in_err-within.result _ c.from_residual-in_err-within.ensures.0
+
+pub returns-in_err-within-clause-bank : goal.returns-in_err-within-clause-bank
+returns-in_err-within-clause-bank g c = c.bit.ensures.bank
+
+pub returns-in_err-inner-clause-nodes : goal.returns-in_err-inner-clause-nodes
+returns-in_err-inner-clause-nodes g c = on_ok_refused c.from_residual-in_err-inner.result _ c.from_residual-in_err-inner.ensures.0
+
+pub returns-in_err-inner-clause-single : goal.returns-in_err-inner-clause-single
+returns-in_err-inner-clause-single g c = on_ok_refused c.from_residual-in_err-inner.result _ c.from_residual-in_err-inner.ensures.0
+
+pub returns-in_err-inner-clause-answer : goal.returns-in_err-inner-clause-answer
+returns-in_err-inner-clause-answer g c = IfOk-from_err c.from_residual-in_err-inner.result _ c.from_residual-in_err-inner.ensures.0
+
+pub returns-in_err-inner-clause-state : goal.returns-in_err-inner-clause-state
+returns-in_err-inner-clause-state g c = IfOk-from_err c.from_residual-in_err-inner.result _ c.from_residual-in_err-inner.ensures.0
+
+pub returns-in_err-inner-clause-bank : goal.returns-in_err-inner-clause-bank
+returns-in_err-inner-clause-bank g c = c.bit-2.ensures.bank
+
+pub returns-in_err-fallen-clause-nodes : goal.returns-in_err-fallen-clause-nodes
+returns-in_err-fallen-clause-nodes g c = on_ok_refused c.from_residual-in_err-fallen.result _ c.from_residual-in_err-fallen.ensures.0
+
+pub returns-in_err-fallen-clause-single : goal.returns-in_err-fallen-clause-single
+returns-in_err-fallen-clause-single g c = on_ok_refused c.from_residual-in_err-fallen.result _ c.from_residual-in_err-fallen.ensures.0
+
+pub returns-in_err-fallen-clause-answer : goal.returns-in_err-fallen-clause-answer
+returns-in_err-fallen-clause-answer g c = IfOk-from_err c.from_residual-in_err-fallen.result _ c.from_residual-in_err-fallen.ensures.0
+
+pub returns-in_err-fallen-clause-state : goal.returns-in_err-fallen-clause-state
+returns-in_err-fallen-clause-state g c = IfOk-from_err c.from_residual-in_err-fallen.result _ c.from_residual-in_err-fallen.ensures.0
+
+pub returns-in_err-fallen-clause-bank : goal.returns-in_err-fallen-clause-bank
+returns-in_err-fallen-clause-bank g c = c.left.ensures.bank
+
+pub returns-in_err-some-clause-nodes : goal.returns-in_err-some-clause-nodes
+returns-in_err-some-clause-nodes g c = on_ok_refused c.from_residual-in_err-some.result _ c.from_residual-in_err-some.ensures.0
+
+pub returns-in_err-some-clause-single : goal.returns-in_err-some-clause-single
+returns-in_err-some-clause-single g c = on_ok_refused c.from_residual-in_err-some.result _ c.from_residual-in_err-some.ensures.0
+
+pub returns-in_err-some-clause-answer : goal.returns-in_err-some-clause-answer
+returns-in_err-some-clause-answer g c = IfOk-from_err c.from_residual-in_err-some.result _ c.from_residual-in_err-some.ensures.0
+
+pub returns-in_err-some-clause-state : goal.returns-in_err-some-clause-state
+returns-in_err-some-clause-state g c = IfOk-from_err c.from_residual-in_err-some.result _ c.from_residual-in_err-some.ensures.0
+
+pub returns-in_err-some-clause-bank : goal.returns-in_err-some-clause-bank
+returns-in_err-some-clause-bank g c = c.either.ensures.bank
+
+pub returns-in_err-stopped-clause-nodes : goal.returns-in_err-stopped-clause-nodes
+returns-in_err-stopped-clause-nodes g c = on_ok_refused c.from_residual-in_err-stopped.result _ c.from_residual-in_err-stopped.ensures.0
+
+pub returns-in_err-stopped-clause-single : goal.returns-in_err-stopped-clause-single
+returns-in_err-stopped-clause-single g c = on_ok_refused c.from_residual-in_err-stopped.result _ c.from_residual-in_err-stopped.ensures.0
+
+pub returns-in_err-stopped-clause-answer : goal.returns-in_err-stopped-clause-answer
+returns-in_err-stopped-clause-answer g c = IfOk-from_err c.from_residual-in_err-stopped.result _ c.from_residual-in_err-stopped.ensures.0
+
+pub returns-in_err-stopped-clause-state : goal.returns-in_err-stopped-clause-state
+returns-in_err-stopped-clause-state g c = IfOk-from_err c.from_residual-in_err-stopped.result _ c.from_residual-in_err-stopped.ensures.0
+
+pub returns-in_err-stopped-clause-bank : goal.returns-in_err-stopped-clause-bank
+returns-in_err-stopped-clause-bank g c = c.either-2.ensures.bank
+
+pub returns-in_err-answer-clause-nodes : goal.returns-in_err-answer-clause-nodes
+returns-in_err-answer-clause-nodes g c = on_ok_refused c.from_residual-in_err-answer.result _ c.from_residual-in_err-answer.ensures.0
+
+pub returns-in_err-answer-clause-single : goal.returns-in_err-answer-clause-single
+returns-in_err-answer-clause-single g c = on_ok_refused c.from_residual-in_err-answer.result _ c.from_residual-in_err-answer.ensures.0
+
+pub returns-in_err-answer-clause-answer : goal.returns-in_err-answer-clause-answer
+returns-in_err-answer-clause-answer g c = IfOk-from_err c.from_residual-in_err-answer.result _ c.from_residual-in_err-answer.ensures.0
+
+pub returns-in_err-answer-clause-state : goal.returns-in_err-answer-clause-state
+returns-in_err-answer-clause-state g c = IfOk-from_err c.from_residual-in_err-answer.result _ c.from_residual-in_err-answer.ensures.0
+
+pub returns-in_err-answer-clause-bank : goal.returns-in_err-answer-clause-bank
+returns-in_err-answer-clause-bank g c = c.handle.ensures.bank
+
+pub returns-clause-bank : goal.returns-clause-bank
+returns-clause-bank g c = c.handle.ensures.bank

@@ -6,6 +6,8 @@ use Rattle.ygg_sym_runs.specs.ygg_bank_proofs_Widths.{extends_both}
 use Rattle.ygg_sym_runs.specs.StopTerms.{sym_left}
 use Rattle.ygg_sym_machine.specs.Stopping.{stops_on}
 use Rattle.ygg_sym_machine.proofs.Chains.{form_as, left_from, nodes_as}
+use Rattle.std.proofs.lemmas.Result.{IfOk-from_err}
+use Rattle.ygg_sym_machine.proofs.Calls.{on_ok_refused}
 use Rattle.ygg_sym_machine.proofs.stopping.left.Goals as goal
 
 pub merge-requires : goal.merge-requires
@@ -158,3 +160,69 @@ returns-clause-form g c =
     c.args.fallen.now c.in_ok-cut.cut c.in_ok-inner.inner c.in_ok-lost.lost c.in_ok-outer.outer c.args.bank.now c.cut.new.bank c.merge.new.bank
     c.lose.new.bank c.merge-2.new.bank c.in_ok-cut.ensures.form c.in_ok-cut.ensures.nodes c.in_ok-inner.ensures.form c.in_ok-inner.ensures.nodes
     c.in_ok-lost.ensures.form c.in_ok-lost.ensures.nodes c.in_ok-outer.ensures.form c.in_ok-outer.ensures.nodes) c.merge-3.ensures.form
+
+pub returns-in_err-cut-clause-nodes : goal.returns-in_err-cut-clause-nodes
+returns-in_err-cut-clause-nodes g c = on_ok_refused c.from_residual.result _ c.from_residual.ensures.0
+
+pub returns-in_err-cut-clause-single : goal.returns-in_err-cut-clause-single
+returns-in_err-cut-clause-single g c = on_ok_refused c.from_residual.result _ c.from_residual.ensures.0
+
+pub returns-in_err-cut-clause-form : goal.returns-in_err-cut-clause-form
+returns-in_err-cut-clause-form g c = IfOk-from_err c.from_residual.result _ c.from_residual.ensures.0
+
+pub returns-in_err-cut-clause-stands : goal.returns-in_err-cut-clause-stands
+returns-in_err-cut-clause-stands g c = IfOk-from_err c.from_residual.result _ c.from_residual.ensures.0
+
+pub returns-in_err-cut-clause-bank : goal.returns-in_err-cut-clause-bank
+returns-in_err-cut-clause-bank g c = c.cut.ensures.bank
+
+pub returns-in_err-inner-clause-nodes : goal.returns-in_err-inner-clause-nodes
+returns-in_err-inner-clause-nodes g c = on_ok_refused c.from_residual-in_err-inner.result _ c.from_residual-in_err-inner.ensures.0
+
+pub returns-in_err-inner-clause-single : goal.returns-in_err-inner-clause-single
+returns-in_err-inner-clause-single g c = on_ok_refused c.from_residual-in_err-inner.result _ c.from_residual-in_err-inner.ensures.0
+
+pub returns-in_err-inner-clause-form : goal.returns-in_err-inner-clause-form
+returns-in_err-inner-clause-form g c = IfOk-from_err c.from_residual-in_err-inner.result _ c.from_residual-in_err-inner.ensures.0
+
+pub returns-in_err-inner-clause-stands : goal.returns-in_err-inner-clause-stands
+returns-in_err-inner-clause-stands g c = IfOk-from_err c.from_residual-in_err-inner.result _ c.from_residual-in_err-inner.ensures.0
+
+pub returns-in_err-inner-clause-bank : goal.returns-in_err-inner-clause-bank
+returns-in_err-inner-clause-bank g c = c.merge.ensures.bank
+
+pub returns-in_err-lost-clause-nodes : goal.returns-in_err-lost-clause-nodes
+returns-in_err-lost-clause-nodes g c = on_ok_refused c.from_residual-in_err-lost.result _ c.from_residual-in_err-lost.ensures.0
+
+pub returns-in_err-lost-clause-single : goal.returns-in_err-lost-clause-single
+returns-in_err-lost-clause-single g c = on_ok_refused c.from_residual-in_err-lost.result _ c.from_residual-in_err-lost.ensures.0
+
+pub returns-in_err-lost-clause-form : goal.returns-in_err-lost-clause-form
+returns-in_err-lost-clause-form g c = IfOk-from_err c.from_residual-in_err-lost.result _ c.from_residual-in_err-lost.ensures.0
+
+pub returns-in_err-lost-clause-stands : goal.returns-in_err-lost-clause-stands
+returns-in_err-lost-clause-stands g c = IfOk-from_err c.from_residual-in_err-lost.result _ c.from_residual-in_err-lost.ensures.0
+
+pub returns-in_err-lost-clause-bank : goal.returns-in_err-lost-clause-bank
+returns-in_err-lost-clause-bank g c = c.lose.ensures.bank
+
+pub returns-in_err-outer-clause-nodes : goal.returns-in_err-outer-clause-nodes
+returns-in_err-outer-clause-nodes g c = on_ok_refused c.from_residual-in_err-outer.result _ c.from_residual-in_err-outer.ensures.0
+
+pub returns-in_err-outer-clause-single : goal.returns-in_err-outer-clause-single
+returns-in_err-outer-clause-single g c = on_ok_refused c.from_residual-in_err-outer.result _ c.from_residual-in_err-outer.ensures.0
+
+pub returns-in_err-outer-clause-form : goal.returns-in_err-outer-clause-form
+returns-in_err-outer-clause-form g c = IfOk-from_err c.from_residual-in_err-outer.result _ c.from_residual-in_err-outer.ensures.0
+
+pub returns-in_err-outer-clause-stands : goal.returns-in_err-outer-clause-stands
+returns-in_err-outer-clause-stands g c = IfOk-from_err c.from_residual-in_err-outer.result _ c.from_residual-in_err-outer.ensures.0
+
+pub returns-in_err-outer-clause-bank : goal.returns-in_err-outer-clause-bank
+returns-in_err-outer-clause-bank g c = c.merge-2.ensures.bank
+
+pub returns-in_err-cut-clause-grows : goal.returns-in_err-cut-clause-grows
+returns-in_err-cut-clause-grows g c = c.cut.ensures.grows
+
+pub returns-clause-bank : goal.returns-clause-bank
+returns-clause-bank g c = c.merge-3.ensures.bank

@@ -1,16 +1,40 @@
-use Rattle.std.proofs.Common.{◌≡◌, ◌<◌, ◌^◌, ◌++◌, append-nil, ◌∷◌, [], map, get_or, true, false, refl, sym, ap, ◌∙◌, subst, arith}
+use Rattle.std.proofs.Common.{
+  ◌≡◌,
+  ℕ,
+  ◌<◌,
+  ◌^◌,
+  ◌==◌,
+  ◌++◌,
+  List,
+  append-nil,
+  ◌∷◌,
+  [],
+  map,
+  get_or,
+  true,
+  false,
+  refl,
+  sym,
+  ap,
+  ◌∙◌,
+  subst,
+  arith,
+}
 use Rattle.std.proofs.lemmas.Bool.{eq-eqb, ne_eqb}
 use Rattle.std.proofs.lemmas.List.{map-append}
+use Rattle.std.proofs.lemmas.List.Elements.{All-get_or}
+use Rattle.std.proofs.lemmas.Result.{IfOk-from_err}
 use Rattle.ygg_syntax.specs.declared.tree.Expr.{Expr}
 use Rattle.ygg_value.specs.Number.{Number}
 use Rattle.ygg_value.specs.Values.{word_in}
 use Rattle.ygg_meaning_laws.specs.ygg_syntax.Weights.{weights_of, expr_weight}
 use Rattle.ygg_meaning_laws.specs.Environments.{bind}
-use Rattle.ygg_meaning_laws.specs.Meaning.{is_one}
+use Rattle.ygg_meaning_laws.specs.Meaning.{is_one, quantified}
 use Rattle.ygg_eval_expr.specs.Held.{env_of, held_value, held_values}
 use Rattle.ygg_eval_expr.specs.Known.{Known, known_of, value_in, with_number, CanEvaluate}
 use Rattle.ygg_eval_expr.proofs.Called.{definition_weighs}
-use Rattle.ygg_eval_expr.proofs.Lists.{gathered}
+use Rattle.ygg_eval_expr.specs.declared.held.CowValue.{CowValue}
+use Rattle.ygg_eval_expr.proofs.Lists.{gathered, all_gathered}
 use Rattle.ygg_eval_expr.proofs.Walking.{last_pushed, last_replaced, at_number, none_tested, one_tested, stopped, differ, agree}
 use Rattle.ygg_eval_expr.proofs.Weighed.{
   arguments_lighter,
@@ -28,6 +52,7 @@ use Rattle.ygg_eval_expr.proofs.Weighed.{
   words_lighter,
   quantified_lighter,
   rest_lighter,
+  item_lighter,
 }
 use Rattle.ygg_eval_expr.proofs.Ready.{
   gives_constant,
@@ -429,3 +454,166 @@ words-loop-e-preserved t c =
           c.in_ok-word.ensures c.in_ok-push.ensures.items c.loop-e.invariant.words;
       part = omega arith;
     }
+
+-- errors
+
+pub called-returns-in_err-own-in-Some : goal.called-returns-in_err-own-in-Some
+called-returns-in_err-own-in-Some t c = IfOk-from_err c.from_residual.result _ c.from_residual.ensures.0
+
+pub called-returns-in_err-value-in-Some : goal.called-returns-in_err-value-in-Some
+called-returns-in_err-value-in-Some t c = IfOk-from_err c.from_residual-in_err-value-in-Some.result _ c.from_residual-in_err-value-in-Some.ensures.0
+
+pub called-returns-in_err-value-in-Some-2 : goal.called-returns-in_err-value-in-Some-2
+called-returns-in_err-value-in-Some-2 t c = IfOk-from_err c.from_residual-in_err-value-in-Some-2.result _ c.from_residual-in_err-value-in-Some-2.ensures.0
+
+pub quantified-returns-in_err-numbers : goal.quantified-returns-in_err-numbers
+quantified-returns-in_err-numbers t c = IfOk-from_err c.from_residual.result _ c.from_residual.ensures.0
+
+pub quantified-returns-in_err-push : goal.quantified-returns-in_err-push
+quantified-returns-in_err-push t c = IfOk-from_err c.from_residual-in_err-push.result _ c.from_residual-in_err-push.ensures.0
+
+pub quantified-returns-in_err-test : goal.quantified-returns-in_err-test
+quantified-returns-in_err-test t c = IfOk-from_err c.from_residual-in_err-test.result _ c.from_residual-in_err-test.ensures.0
+
+pub test-returns-in_err-word : goal.test-returns-in_err-word
+test-returns-in_err-word t c = IfOk-from_err c.from_residual.result _ c.from_residual.ensures.0
+
+pub value-returns-in_err-a-in-Binary : goal.value-returns-in_err-a-in-Binary
+value-returns-in_err-a-in-Binary t c = IfOk-from_err c.from_residual-in_err-a-in-Binary.result _ c.from_residual-in_err-a-in-Binary.ensures.0
+
+pub value-returns-in_err-a-in-Fill : goal.value-returns-in_err-a-in-Fill
+value-returns-in_err-a-in-Fill t c = IfOk-from_err c.from_residual-in_err-a-in-Fill.result _ c.from_residual-in_err-a-in-Fill.ensures.0
+
+pub value-returns-in_err-a-in-Not : goal.value-returns-in_err-a-in-Not
+value-returns-in_err-a-in-Not t c = IfOk-from_err c.from_residual-in_err-a-in-Not.result _ c.from_residual-in_err-a-in-Not.ensures.0
+
+pub value-returns-in_err-a-in-Pick : goal.value-returns-in_err-a-in-Pick
+value-returns-in_err-a-in-Pick t c = IfOk-from_err c.from_residual-in_err-a-in-Pick.result _ c.from_residual-in_err-a-in-Pick.ensures.0
+
+pub value-returns-in_err-a-in-Resize : goal.value-returns-in_err-a-in-Resize
+value-returns-in_err-a-in-Resize t c = IfOk-from_err c.from_residual-in_err-a-in-Resize.result _ c.from_residual-in_err-a-in-Resize.ensures.0
+
+pub value-returns-in_err-arguments-in-Apply : goal.value-returns-in_err-arguments-in-Apply
+value-returns-in_err-arguments-in-Apply t c = IfOk-from_err c.from_residual.result _ c.from_residual.ensures.0
+
+pub value-returns-in_err-b-in-Binary : goal.value-returns-in_err-b-in-Binary
+value-returns-in_err-b-in-Binary t c = IfOk-from_err c.from_residual-in_err-b-in-Binary.result _ c.from_residual-in_err-b-in-Binary.ensures.0
+
+pub value-returns-in_err-b-in-Pick : goal.value-returns-in_err-b-in-Pick
+value-returns-in_err-b-in-Pick t c = IfOk-from_err c.from_residual-in_err-b-in-Pick.result _ c.from_residual-in_err-b-in-Pick.ensures.0
+
+pub value-returns-in_err-holds-in-Quantified : goal.value-returns-in_err-holds-in-Quantified
+value-returns-in_err-holds-in-Quantified t c = IfOk-from_err c.from_residual-in_err-holds-in-Quantified.result _
+    c.from_residual-in_err-holds-in-Quantified.ensures.0
+
+pub value-returns-in_err-i-in-At : goal.value-returns-in_err-i-in-At
+value-returns-in_err-i-in-At t c = IfOk-from_err c.from_residual-in_err-i-in-At.result _ c.from_residual-in_err-i-in-At.ensures.0
+
+pub value-returns-in_err-part-in-At : goal.value-returns-in_err-part-in-At
+value-returns-in_err-part-in-At t c = IfOk-from_err c.from_residual-in_err-part-in-At.result _ c.from_residual-in_err-part-in-At.ensures.0
+
+pub value-returns-in_err-row-in-Fill : goal.value-returns-in_err-row-in-Fill
+value-returns-in_err-row-in-Fill t c = IfOk-from_err c.from_residual-in_err-row-in-Fill.result _ c.from_residual-in_err-row-in-Fill.ensures.0
+
+pub value-returns-in_err-row-in-Row : goal.value-returns-in_err-row-in-Row
+value-returns-in_err-row-in-Row t c = IfOk-from_err c.from_residual-in_err-row-in-Row.result _ c.from_residual-in_err-row-in-Row.ensures.0
+
+pub value-returns-in_err-test-in-Pick : goal.value-returns-in_err-test-in-Pick
+value-returns-in_err-test-in-Pick t c = IfOk-from_err c.from_residual-in_err-test-in-Pick.result _ c.from_residual-in_err-test-in-Pick.ensures.0
+
+pub value-returns-in_err-value-in-Apply : goal.value-returns-in_err-value-in-Apply
+value-returns-in_err-value-in-Apply t c = IfOk-from_err c.from_residual-in_err-value-in-Apply.result _ c.from_residual-in_err-value-in-Apply.ensures.0
+
+pub value-returns-in_err-whole-in-At : goal.value-returns-in_err-whole-in-At
+value-returns-in_err-whole-in-At t c = IfOk-from_err c.from_residual-in_err-whole-in-At.result _ c.from_residual-in_err-whole-in-At.ensures.0
+
+pub value-returns-in_err-words-in-Fill : goal.value-returns-in_err-words-in-Fill
+value-returns-in_err-words-in-Fill t c = IfOk-from_err c.from_residual-in_err-words-in-Fill.result _ c.from_residual-in_err-words-in-Fill.ensures.0
+
+pub value-returns-in_err-words-in-Row : goal.value-returns-in_err-words-in-Row
+value-returns-in_err-words-in-Row t c = IfOk-from_err c.from_residual-in_err-words-in-Row.result _ c.from_residual-in_err-words-in-Row.ensures.0
+
+pub values-returns-in_err-push : goal.values-returns-in_err-push
+values-returns-in_err-push t c = IfOk-from_err c.from_residual-in_err-push.result _ c.from_residual-in_err-push.ensures.0
+
+pub values-returns-in_err-value : goal.values-returns-in_err-value
+values-returns-in_err-value t c = IfOk-from_err c.from_residual.result _ c.from_residual.ensures.0
+
+pub word-returns-in_err-value : goal.word-returns-in_err-value
+word-returns-in_err-value t c = IfOk-from_err c.from_residual.result _ c.from_residual.ensures.0
+
+pub words-returns-in_err-push : goal.words-returns-in_err-push
+words-returns-in_err-push t c = IfOk-from_err c.from_residual-in_err-push.result _ c.from_residual-in_err-push.ensures.0
+
+pub words-returns-in_err-word : goal.words-returns-in_err-word
+words-returns-in_err-word t c = IfOk-from_err c.from_residual.result _ c.from_residual.ensures.0
+
+pub called-returns-in-None : goal.called-returns-in-None
+called-returns-in-None t c = sym (c.in-None.ensures.none (held_values c.args.args.now))
+
+pub quantified-returns : goal.quantified-returns
+quantified-returns t c =
+    let end : c.loop-i.i ≡ c.args.n.value = omega arith in
+    c.loop-i.invariant.all ∙ c.loop-i.invariant.so_far
+    ∙ ap (λ (n : ℕ). quantified c.args.which n
+    (λ i. is_one (value_in (with_number (known_of c.args.self.now) c.args.x.now.text c.args.w.value i) c.args.e.now))) end
+
+pub quantified-numbered-requires-in-loop-i-clause-below : goal.quantified-numbered-requires-in-loop-i-clause-below
+quantified-numbered-requires-in-loop-i-clause-below t c =
+    let before = c.loop-i-test.true in
+    let bound = c.requires.bound in
+    omega arith
+
+-- words and tests
+
+pub word-value-requires : goal.word-value-requires
+word-value-requires t c = (omega arith, c.requires)
+
+pub word-returns : goal.word-returns
+word-returns t c = c.word_in.ensures ∙ ap word_in (c.value-2.ensures ∙ c.in_ok-value.ensures)
+
+pub test-word-requires : goal.test-word-requires
+test-word-requires t c = (omega arith, c.requires)
+
+pub test-returns : goal.test-returns
+test-returns t c = ap (λ (n : Number). n.bits == 1) (c.word-2.view_is ∙ c.in_ok-word.ensures)
+
+-- several expressions, one by one
+
+pub values-loop-e-init : goal.values-loop-e-init
+values-loop-e-init t c = record {
+  values = ap (λ (vs : List CowValue). held_values vs ++ map (value_in (known_of c.args.self.now)) c.args.es.now) c.new-values.ensures.items;
+  part = omega arith;
+}
+
+pub values-value-requires : goal.values-value-requires
+values-value-requires t c =
+    let k = known_of c.args.self.now in
+    let lighter = item_lighter (weights_of c.args.self.now.defs.now) c.args.es.now c.loop-e.e-index c.e-item.result c.loop-e-test.true c.e-item.is in
+    let left = c.loop-e.invariant.part in (
+      omega arith,
+      subst (CanEvaluate k) (sym c.e-item.is) (All-get_or (CanEvaluate k) c.args.es.now c.loop-e.e-index c.e-item.result c.loop-e-test.true c.requires),
+    )
+
+pub values-returns : goal.values-returns
+values-returns t c = all_gathered (value_in (known_of c.args.self.now)) (held_values c.loop-e.values.items) c.args.es.now c.loop-e.e-index
+    c.loop-e-test.false c.loop-e.invariant.values
+
+pub words-loop-e-init : goal.words-loop-e-init
+words-loop-e-init t c = record {
+  words = ap (λ (ws : List Number). ws ++ map (λ (e : Expr). word_in (value_in (known_of c.args.self.now) e)) c.args.es.now) c.new-words.ensures.items;
+  part = omega arith;
+}
+
+pub words-word-requires : goal.words-word-requires
+words-word-requires t c =
+    let k = known_of c.args.self.now in
+    let lighter = item_lighter (weights_of c.args.self.now.defs.now) c.args.es.now c.loop-e.e-index c.e-item.result c.loop-e-test.true c.e-item.is in
+    let left = c.loop-e.invariant.part in (
+      omega arith,
+      subst (CanEvaluate k) (sym c.e-item.is) (All-get_or (CanEvaluate k) c.args.es.now c.loop-e.e-index c.e-item.result c.loop-e-test.true c.requires),
+    )
+
+pub words-returns : goal.words-returns
+words-returns t c = all_gathered (λ (e : Expr). word_in (value_in (known_of c.args.self.now) e)) c.loop-e.words.items c.args.es.now c.loop-e.e-index
+    c.loop-e-test.false c.loop-e.invariant.words

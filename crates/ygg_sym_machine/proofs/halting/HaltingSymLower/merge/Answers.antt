@@ -2,6 +2,8 @@ use Rattle.std.proofs.Common.{subst, sym}
 use Rattle.ygg_sym_runs.specs.ygg_bank_proofs_Widths.{extends_both, wider}
 use Rattle.ygg_sym_machine.specs.Halting.{halted_low}
 use Rattle.ygg_sym_machine.proofs.Standing.{can_pick, pick_single, single_both}
+use Rattle.std.proofs.lemmas.Result.{IfOk-from_err}
+use Rattle.ygg_sym_machine.proofs.Calls.{on_ok_refused}
 use Rattle.ygg_sym_machine.proofs.halting.HaltingSymLower.merge.Goals as goal
 
 pub merge-requires-2 : goal.merge-requires-2
@@ -56,3 +58,48 @@ returns-clause-grows g c =
     extends_both c.args.bank.now c.merge.new.bank c.pick.new.bank c.merge.ensures.grows
     (extends_both c.merge.new.bank c.merge-2.new.bank c.pick.new.bank c.merge-2.ensures.grows
     c.pick.ensures.grows)
+
+pub returns-in_err-to-clause-nodes : goal.returns-in_err-to-clause-nodes
+returns-in_err-to-clause-nodes g c = on_ok_refused c.from_residual.result _ c.from_residual.ensures.0
+
+pub returns-in_err-to-clause-single : goal.returns-in_err-to-clause-single
+returns-in_err-to-clause-single g c = on_ok_refused c.from_residual.result _ c.from_residual.ensures.0
+
+pub returns-in_err-to-clause-form : goal.returns-in_err-to-clause-form
+returns-in_err-to-clause-form g c = IfOk-from_err c.from_residual.result _ c.from_residual.ensures.0
+
+pub returns-in_err-to-clause-bank : goal.returns-in_err-to-clause-bank
+returns-in_err-to-clause-bank g c = c.merge.ensures.bank
+
+pub returns-in_err-fallen-clause-nodes : goal.returns-in_err-fallen-clause-nodes
+returns-in_err-fallen-clause-nodes g c = on_ok_refused c.from_residual-in_err-fallen.result _ c.from_residual-in_err-fallen.ensures.0
+
+pub returns-in_err-fallen-clause-single : goal.returns-in_err-fallen-clause-single
+returns-in_err-fallen-clause-single g c = on_ok_refused c.from_residual-in_err-fallen.result _ c.from_residual-in_err-fallen.ensures.0
+
+pub returns-in_err-fallen-clause-form : goal.returns-in_err-fallen-clause-form
+returns-in_err-fallen-clause-form g c = IfOk-from_err c.from_residual-in_err-fallen.result _ c.from_residual-in_err-fallen.ensures.0
+
+pub returns-in_err-fallen-clause-bank : goal.returns-in_err-fallen-clause-bank
+returns-in_err-fallen-clause-bank g c = c.merge-2.ensures.bank
+
+pub returns-in_err-stopped-clause-nodes : goal.returns-in_err-stopped-clause-nodes
+returns-in_err-stopped-clause-nodes g c = on_ok_refused c.from_residual-in_err-stopped.result _ c.from_residual-in_err-stopped.ensures.0
+
+pub returns-in_err-stopped-clause-single : goal.returns-in_err-stopped-clause-single
+returns-in_err-stopped-clause-single g c = on_ok_refused c.from_residual-in_err-stopped.result _ c.from_residual-in_err-stopped.ensures.0
+
+pub returns-in_err-stopped-clause-form : goal.returns-in_err-stopped-clause-form
+returns-in_err-stopped-clause-form g c = IfOk-from_err c.from_residual-in_err-stopped.result _ c.from_residual-in_err-stopped.ensures.0
+
+pub returns-in_err-stopped-clause-bank : goal.returns-in_err-stopped-clause-bank
+returns-in_err-stopped-clause-bank g c = c.pick.ensures.bank
+
+pub returns-in_err-to-clause-grows : goal.returns-in_err-to-clause-grows
+returns-in_err-to-clause-grows g c = c.merge.ensures.grows
+
+pub returns-clause-bank : goal.returns-clause-bank
+returns-clause-bank g c = c.pick.ensures.bank
+
+pub pick-requires-clause-bank : goal.pick-requires-clause-bank
+pick-requires-clause-bank g c = c.merge-2.ensures.bank
