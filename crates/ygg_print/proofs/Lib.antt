@@ -1,3 +1,5 @@
+pub mod Behind
+pub mod ExpressionParts
 pub mod Indentation
 pub mod Joined
 pub mod Marks
