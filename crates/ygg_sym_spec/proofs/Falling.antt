@@ -74,3 +74,14 @@ module _ (l : SymLayer) (p : SymPicks) (nodes : List Node) (name : Name) (vars v
     args_are = subst (λ z. LowShaped nodes z values) (sym f) (can.args_are o (sym e));
     single = can.single;
   }
+
+-- an operation's own block for power that fails
+pub own_can : (l : SymLayer) (p : SymPicks) (nodes : List Node) (o : Operation) (b : Block) (vars : List SymValue) (args : List Declared)
+    (values : List SymValue) → o.on_crash ≡ Some b → args ≡ o.arguments → CanFall l p nodes o vars values → CanBlock l p nodes b vars args values
+own_can l p nodes o b vars args values is e can = record {
+  sound = can.sound;
+  typed = subst (SpecBlockTyped l.defs.now (closed l) b) (sym e) ((can.operation).on_crash b is);
+  vars_are = can.vars_are;
+  args_are = subst (λ z. LowShaped nodes z values) (sym e) can.args_are;
+  single = can.single;
+}

@@ -17,9 +17,12 @@ use Rattle.ygg_sym_runs.specs.Lows.{merge_lows}
 use Rattle.ygg_sym_runs.specs.SpecCuts.{picks_after, choice_room, crash_made, then_crash_made, fall_made, fall_asked}
 use Rattle.ygg_sym_runs.proofs.MergedLows.{merged_single}
 use Rattle.ygg_sym_spec.specs.Layers.{closed, terms_in, block_of, crash_of, then_crash_of, fall_of, cut_of}
+use Rattle.ygg_sym_runs.specs.Specs.{input_pick, spec_asked}
+use Rattle.ygg_sym_spec.specs.Machine.{call_of}
 use Rattle.ygg_sym_spec.specs.Picking.{picking}
 use Rattle.ygg_sym_spec.specs.declared.layer.SymLayer.{SymLayer}
 use Rattle.ygg_sym_spec.specs.declared.picks.SymPicks.{SymPicks}
+use Rattle.ygg_sym_spec.specs.declared.picks.SymPicks.TheVariants as picks
 use mathlib.Core.Path.{fun_ext}
 
 -- one step after another keeps single digits
@@ -103,3 +106,32 @@ module _ (kinds : List RuleKind) (l : SymLayer) (p : SymPicks) where
       pure vars old ≡ fall_of kinds l p name values vars old
   none_goes name vars values old e =
       ap (λ (x : Option Operation). fall_asked kinds (terms_in kinds l) (closed l) (picking kinds p) x vars values old) e
+
+  -- an operation that has no block of its own for power that fails
+  pub whole_cut : (o : Operation) (vars values : List SymValue) (old : List Node) → o.on_crash ≡ None →
+      fall_made kinds (terms_in kinds l) (closed l) (picking kinds p) o None vars values old ≡ cut_of kinds l p o values vars old
+  whole_cut o vars values old e = ap (λ (x : Option Block). fall_made kinds (terms_in kinds l) (closed l) (picking kinds p) o x vars values old) (sym e)
+
+-- a call of an operation that was found
+module _ (kinds : List RuleKind) (l : SymLayer) (first : ℕ) (name : Name) (o : Operation) (vars : List SymValue) (args : List Declared)
+    (values : List SymValue) (old : List Node) (e : args ≡ o.arguments) (f : Some o ≡ operation_of (closed l) name) where
+  call_goes : block_of kinds l (picks.Inputs first) o.spec vars args values old ≡ call_of kinds l first name values vars old
+  call_goes =
+      ap (λ z. block_of kinds l (picks.Inputs first) o.spec vars z values old) e
+      ∙ ap (λ (x : Option Operation). spec_asked kinds (terms_in kinds l) (closed l) (input_pick kinds first) x values vars old) f
+
+  pub call_nodes : (state : List SymValue) (new : List Node) → vars ≡ state →
+      new ≡ (block_of kinds l (picks.Inputs first) o.spec vars args values old).nodes → new ≡ (call_of kinds l first name values state old).nodes
+  call_nodes state new same h =
+      h
+      ∙ ap (λ (o : Out Done). o.nodes) call_goes
+      ∙ ap (λ (z : List SymValue). (call_of kinds l first name values z old).nodes) same
+
+-- what holds anyway holds after a call
+pub always_ok : {E A : Type 0} {P : Type 0} (r : Result A E) → P → OnOk r P
+always_ok (Ok a) h = h
+always_ok (Err x) h = tt
+
+pub same_as : {E A : Type 0} (P : A → Type 0) (x : A) (r : Result A E) → IfOk r (λ a. a ≡ x) → P x → IfOk r P
+same_as P x (Ok a) e h = subst P (sym e) h
+same_as P x (Err y) e h = tt

@@ -9,3 +9,5 @@ pub mod WholeRun
 pub mod Left
 pub mod Carried
 pub mod ZerosMade
+pub mod Started
+pub mod Binding

@@ -1,5 +1,6 @@
 -- Zeros for declared names, name by name.
-use Rattle.std.proofs.Common.{◌≡◌, ◌<◌, ℕ, ◌+◌, List, [], ◌∷◌, ◌++◌, length, drop, get_or, sym, ap, ◌∙◌}
+use Rattle.std.proofs.Common.{◌≡◌, ◌<◌, ◌≤◌, ℕ, ◌+◌, List, [], ◌∷◌, ◌++◌, length, drop, get_or, sym, ap, ◌∙◌, subst}
+use Rattle.std.proofs.lemmas.List.{drop_all}
 use Rattle.std.proofs.lemmas.List.Elements.{All-head, All-tail}
 use Rattle.ygg_value.specs.Shapes.{IsShape}
 use Rattle.ygg_syntax.specs.declared.tree.Declared.{Declared}
@@ -27,6 +28,10 @@ shapes_are (d ∷ ds) k = (
       (All-tail (λ (d : Declared). IsShape (shape_in d.shape)) d ds k),
 )
 
+pub kept_more : (ds : List Declared) (i : ℕ) (d e : Declared) → i < length ds → d ≡ get_or ds i e → AreKept (drop i ds) → AreKept (drop (i + 1) ds)
+kept_more ds i d e l is k =
+    All-tail (λ (d : Declared). IsShape (shape_in d.shape)) d (drop (i + 1) ds) (subst AreKept (rest_is ds i d e l is) k)
+
 module _ (kinds : List RuleKind) where
   pub zeros_go : (ds : List Declared) (old now : List Node) (i : ℕ) (so_far : List SymValue) (d e : Declared) (x : SymValue) (next : List Node) →
       i < length ds → d ≡ get_or ds i e → next ≡ (zero_made kinds (shape_in d.shape) now).nodes → x ≡ (zero_made kinds (shape_in d.shape) now).value →
@@ -40,6 +45,11 @@ module _ (kinds : List RuleKind) where
       (ap (λ z. (zeros_made kinds z now).value) rest ∙ ap (λ z. o.value ∷ (zeros_made kinds more z).value) (sym g)
       ∙ ap (λ z. z ∷ (zeros_made kinds more next).value) (sym f))
       (ap (λ z. (zeros_made kinds z now).nodes) rest ∙ ap (λ z. (zeros_made kinds more z).nodes) (sym g)) left
+
+  -- where no name is left
+  pub zeros_end : (ds : List Declared) (old now : List Node) (i : ℕ) (so_far : List SymValue) → length ds ≤ i →
+      Left (zeros_made kinds ds old) (zeros_made kinds (drop i ds) now) so_far → Left (zeros_made kinds ds old) (record { value = []; nodes = now }) so_far
+  zeros_end ds old now i so_far l left = subst (λ z. Left (zeros_made kinds ds old) (zeros_made kinds z now) so_far) (drop_all i ds l) left
 
   -- zeros stand, and no input comes with them
   pub zeros_stand : (ds : List Declared) (nodes : List Node) → AreKept ds → IsBank (zeros_made kinds ds nodes).nodes →

@@ -1,3 +1,4 @@
+use Rattle.ygg_sym_runs.specs.ygg_bank_proofs_Widths.{extends_self}
 use Rattle.std.proofs.Common.{length, sym, ap, ◌∙◌}
 use Rattle.ygg_sym_runs.specs.Names.{sym_bind}
 use Rattle.ygg_sym_runs.specs.Seen.{env_of}
@@ -71,3 +72,27 @@ returns-clause-form g c =
     block_form c.args.layer c.args.picks c.args.bank.now c.args.b.now c.args.vars.now c.args.args.now c.args.values.now c.requires.can
     (g.B.Book.kinds c.args.book.now) c.whole.new.bank (c.in_ok-end.end).answer ((c.in_ok-end.end).names).items c.as_slice-3.result.now
     tt c.in_ok-values_of.field-0 w c.in_ok-values_of.ensures c.as_slice-3.ensures.value
+
+pub returns-in_err-bind-2-clause-grows : goal.returns-in_err-bind-2-clause-grows
+returns-in_err-bind-2-clause-grows g c = extends_self c.args.bank.now
+
+pub returns-in_err-bind-clause-grows : goal.returns-in_err-bind-clause-grows
+returns-in_err-bind-clause-grows g c = extends_self c.args.bank.now
+
+pub returns-in_err-values_of-clause-grows : goal.returns-in_err-values_of-clause-grows
+returns-in_err-values_of-clause-grows g c = c.whole.ensures.grows
+
+pub returns-in_err-values_of-clause-bank : goal.returns-in_err-values_of-clause-bank
+returns-in_err-values_of-clause-bank g c = c.whole.ensures.bank
+
+pub returns-in_err-end-clause-grows : goal.returns-in_err-end-clause-grows
+returns-in_err-end-clause-grows g c = c.whole.ensures.grows
+
+pub returns-in_err-end-clause-bank : goal.returns-in_err-end-clause-bank
+returns-in_err-end-clause-bank g c = c.whole.ensures.bank
+
+pub returns-clause-grows : goal.returns-clause-grows
+returns-clause-grows g c = c.whole.ensures.grows
+
+pub returns-clause-bank : goal.returns-clause-bank
+returns-clause-bank g c = c.whole.ensures.bank

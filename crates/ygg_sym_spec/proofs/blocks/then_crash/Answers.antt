@@ -35,3 +35,27 @@ returns-clause-single g c =
 
 pub returns-clause-grows : goal.returns-clause-grows
 returns-clause-grows g c = extends_both c.args.bank.now c.block.new.bank c.crash.new.bank c.block.ensures.grows c.crash.ensures.grows
+
+pub returns-clause-shape : goal.returns-clause-shape
+returns-clause-shape g c = c.crash.ensures.shape
+
+pub returns-clause-bank : goal.returns-clause-bank
+returns-clause-bank g c = c.crash.ensures.bank
+
+pub returns-in_err-later-clause-bank : goal.returns-in_err-later-clause-bank
+returns-in_err-later-clause-bank g c = c.block.ensures.bank
+
+pub returns-in_err-later-clause-grows : goal.returns-in_err-later-clause-grows
+returns-in_err-later-clause-grows g c = c.block.ensures.grows
+
+pub returns-in_default-clause-bank : goal.returns-in_default-clause-bank
+returns-in_default-clause-bank g c = c.block.ensures.bank
+
+pub returns-in_default-clause-grows : goal.returns-in_default-clause-grows
+returns-in_default-clause-grows g c = c.block.ensures.grows
+
+pub returns-in_err-done-clause-bank : goal.returns-in_err-done-clause-bank
+returns-in_err-done-clause-bank g c = c.block.ensures.bank
+
+pub returns-in_err-done-clause-grows : goal.returns-in_err-done-clause-grows
+returns-in_err-done-clause-grows g c = c.block.ensures.grows

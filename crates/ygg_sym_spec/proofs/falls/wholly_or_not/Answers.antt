@@ -84,3 +84,27 @@ returns-clause-grows g c =
     extends_both c.args.bank.now c.make.new.bank c.merge_lows.new.bank c.make.ensures.grows
     (extends_both c.make.new.bank c.then_crash.new.bank c.merge_lows.new.bank c.then_crash.ensures.grows
     (extends_both c.then_crash.new.bank c.crash.new.bank c.merge_lows.new.bank c.crash.ensures.grows c.merge_lows.ensures.grows))
+
+pub make-requires : goal.make-requires
+make-requires g c = c.requires.can.single
+
+pub then_crash-requires-clause-crash : goal.then_crash-requires-clause-crash
+then_crash-requires-clause-crash g c = c.requires.can.crash
+
+pub returns-clause-bank : goal.returns-clause-bank
+returns-clause-bank g c = c.merge_lows.ensures.bank
+
+pub returns-in_err-nothing-clause-bank : goal.returns-in_err-nothing-clause-bank
+returns-in_err-nothing-clause-bank g c = c.crash.ensures.bank
+
+pub returns-in_err-all-clause-bank : goal.returns-in_err-all-clause-bank
+returns-in_err-all-clause-bank g c = c.then_crash.ensures.bank
+
+pub returns-in_err-later-clause-bank : goal.returns-in_err-later-clause-bank
+returns-in_err-later-clause-bank g c = c.make.ensures.bank
+
+pub returns-in_err-later-clause-grows : goal.returns-in_err-later-clause-grows
+returns-in_err-later-clause-grows g c = c.make.ensures.grows
+
+pub returns-in_err-happened-clause-bank : goal.returns-in_err-happened-clause-bank
+returns-in_err-happened-clause-bank g c = c.make.ensures.bank

@@ -1,3 +1,4 @@
+use Rattle.ygg_sym_runs.specs.ygg_bank_proofs_Widths.{extends_self}
 use Rattle.std.proofs.Common.{◌+◌, arith}
 use Rattle.ygg_sym_runs.specs.Lower.{question_of}
 use Rattle.ygg_sym_runs.specs.Specs.{input_pick, spec_handles}
@@ -45,3 +46,9 @@ returns-in-Some-clause-state g c =
     c.args.state.now c.args.bank.now) c.call.new.state c.call.result
     (call_goes kinds m c.args.place c.in-Some.first c.args.question c.in-Call.name c.in-Call.args c.args.state.now c.args.bank.now
     e.1 c.in-Call.is) c.call.ensures.form
+
+pub returns-in-None-clause-grows : goal.returns-in-None-clause-grows
+returns-in-None-clause-grows g c = extends_self c.args.bank.now
+
+pub returns-in-Choice-clause-grows : goal.returns-in-Choice-clause-grows
+returns-in-Choice-clause-grows g c = extends_self c.args.bank.now
