@@ -57,8 +57,8 @@ returns-clause-nodes g c =
     let k = known_of c.args.evaluator.now in
     let es = c.args.es.now in
     let whole = digits_made kinds k es c.args.bank.now in
-    let ended = subst (λ (z : List Expr). Left whole (digits_made kinds k z c.loop-e.bank) c.loop-e.ids.items) (drop_all c.loop-e.e-index es c.loop-e-test.false)
-    c.loop-e.invariant.went in
+    let none = drop_all c.loop-e.e-index es c.loop-e-test.false in
+    let ended = subst (λ (z : List Expr). Left whole (digits_made kinds k z c.loop-e.bank) c.loop-e.ids.items) none c.loop-e.invariant.went in
     ended.nodes
 
 pub returns-clause-form : goal.returns-clause-form

@@ -27,10 +27,12 @@ returns-clause-told c =
     )
 
 pub returns-then-fails_now-clause-told : goal.returns-then-fails_now-clause-told
-returns-then-fails_now-clause-told c = (images_in c.fails_now.new.self.stored.items, refl, λ other others. ap (λ st. image_of (images_in st.items) other) c.fails_now.ensures.stored)
+returns-then-fails_now-clause-told c =
+    (images_in c.fails_now.new.self.stored.items, refl, λ other others. ap (λ st. image_of (images_in st.items) other) c.fails_now.ensures.stored)
 
 pub returns-in_default-clause-told : goal.returns-in_default-clause-told
-returns-in_default-clause-told c = (images_in c.fails_now.new.self.stored.items, refl, λ other others. ap (λ st. image_of (images_in st.items) other) c.fails_now.ensures.stored)
+returns-in_default-clause-told c =
+    (images_in c.fails_now.new.self.stored.items, refl, λ other others. ap (λ st. image_of (images_in st.items) other) c.fails_now.ensures.stored)
 
 pub returns-in_default-add-clause-told : goal.returns-in_default-add-clause-told
 returns-in_default-add-clause-told c =
