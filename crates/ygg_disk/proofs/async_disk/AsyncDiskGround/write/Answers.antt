@@ -1,4 +1,4 @@
-use Rattle.std.proofs.Common.{[], ◌∷◌, None, refl, ap, ◌∙◌}
+use Rattle.std.proofs.Common.{None, refl, ap, ◌∙◌}
 use Rattle.ygg_base.specs.declared.geometry.DiskKind.TheVariants.{Async}
 use Rattle.ygg_disk.proofs.Copying.{row_of}
 use Rattle.ygg_disk.proofs.Ended.{
@@ -36,14 +36,14 @@ put-requires-in-Within c = row_of c.args.self.now.view c.args.row.now c.requires
 
 pub returns-in-Whole-clause-turn : goal.returns-in-Whole-clause-turn
 returns-in-Whole-clause-turn c =
-    let b = begins_as (Write c.args.at.bits c.args.row.now) (c.peek-kept.result ∷ []) (c.peek-kept.result ∷ []) c.args.power.now c.begin_write.new.self
+    let b = begins_as (Write c.args.at.bits c.args.row.now) _ _ c.args.power.now c.begin_write.new.self
     c.in_ok-begin_write.field-0 fate.Whole c.in-Whole.is c.in_ok-begin_write.ensures in
-    disk_whole Async (Write c.args.at.bits c.args.row.now) c.args.self.now c.put.new.self c.args.power.now c.begin_write.new.self (c.peek-kept.result ∷ [])
-    None (c.peek-kept.result, refl, refl, c.put.ensures) b.1
+    disk_whole Async (Write c.args.at.bits c.args.row.now) c.args.self.now c.put.new.self c.args.power.now c.begin_write.new.self _
+    None (_, refl, refl, c.put.ensures) b.1
 
 pub returns-in-Whole-clause-down : goal.returns-in-Whole-clause-down
 returns-in-Whole-clause-down c =
-    let b = begins_as (Write c.args.at.bits c.args.row.now) (c.peek-kept.result ∷ []) (c.peek-kept.result ∷ []) c.args.power.now c.begin_write.new.self
+    let b = begins_as (Write c.args.at.bits c.args.row.now) _ _ c.args.power.now c.begin_write.new.self
     c.in_ok-begin_write.field-0 fate.Whole c.in-Whole.is c.in_ok-begin_write.ensures in
     done_unnamed c.args.power.now b.0
 
@@ -52,15 +52,15 @@ returns-in-Whole-clause-row c = ap (λ (d : Tables). row_shape d.view) c.put.ens
 
 pub returns-in-Within-clause-turn : goal.returns-in-Within-clause-turn
 returns-in-Within-clause-turn c =
-    let b = begins_as (Write c.args.at.bits c.args.row.now) (c.peek-kept.result ∷ []) (c.peek-kept.result ∷ []) c.args.power.now c.begin_write.new.self
+    let b = begins_as (Write c.args.at.bits c.args.row.now) _ _ c.args.power.now c.begin_write.new.self
     c.in_ok-begin_write.field-0 fate.Within c.in-Within.is c.in_ok-begin_write.ensures in
     down_within (disk_meaning Async) (Write c.args.at.bits c.args.row.now) c.args.self.now c.fall.new.self c.args.power.now c.begin_write.new.self b.0
-    (disk_cut Async (Write c.args.at.bits c.args.row.now) c.args.self.now c.fall.new.self c.args.power.now c.begin_write.new.self (c.peek-kept.result ∷ [])
-    (c.peek-kept.result, refl, c.fall.ensures.lost ∙ ap lost c.put-in-Within.ensures) b.1)
+    (disk_cut Async (Write c.args.at.bits c.args.row.now) c.args.self.now c.fall.new.self c.args.power.now c.begin_write.new.self _
+    (_, refl, c.fall.ensures.lost ∙ ap lost c.put-in-Within.ensures) b.1)
 
 pub returns-in-Within-clause-down : goal.returns-in-Within-clause-down
 returns-in-Within-clause-down c =
-    let b = begins_as (Write c.args.at.bits c.args.row.now) (c.peek-kept.result ∷ []) (c.peek-kept.result ∷ []) c.args.power.now c.begin_write.new.self
+    let b = begins_as (Write c.args.at.bits c.args.row.now) _ _ c.args.power.now c.begin_write.new.self
     c.in_ok-begin_write.field-0 fate.Within c.in-Within.is c.in_ok-begin_write.ensures in
     within_named c.args.power.now b.0
 
@@ -69,7 +69,7 @@ returns-in-Within-clause-row c = c.fall.ensures.row ∙ ap (λ (d : Tables). row
 
 pub returns-in-Before-clause-turn : goal.returns-in-Before-clause-turn
 returns-in-Before-clause-turn c =
-    let b = begins_as (Write c.args.at.bits c.args.row.now) (c.peek-kept.result ∷ []) (c.peek-kept.result ∷ []) c.args.power.now c.begin_write.new.self
+    let b = begins_as (Write c.args.at.bits c.args.row.now) _ _ c.args.power.now c.begin_write.new.self
     c.in_ok-begin_write.field-0 fate.Before c.in-Before.is c.in_ok-begin_write.ensures in
     down_before (disk_meaning Async) (Write c.args.at.bits c.args.row.now) c.args.self.now c.fall-in-Before.new.self c.args.power.now c.begin_write.new.self b.0
     (disk_stopped Async (Write c.args.at.bits c.args.row.now) c.args.self.now c.fall-in-Before.new.self c.args.power.now c.begin_write.new.self
@@ -77,6 +77,6 @@ returns-in-Before-clause-turn c =
 
 pub returns-in-Before-clause-down : goal.returns-in-Before-clause-down
 returns-in-Before-clause-down c =
-    let b = begins_as (Write c.args.at.bits c.args.row.now) (c.peek-kept.result ∷ []) (c.peek-kept.result ∷ []) c.args.power.now c.begin_write.new.self
+    let b = begins_as (Write c.args.at.bits c.args.row.now) _ _ c.args.power.now c.begin_write.new.self
     c.in_ok-begin_write.field-0 fate.Before c.in-Before.is c.in_ok-begin_write.ensures in
     before_named c.args.power.now b.0
