@@ -1,37 +1,5 @@
 -- Groups of the nodes at ascending places, with nothing between them.
-use Rattle.std.proofs.Common.{
-  ◌≡◌,
-  ◌≢◌,
-  ◌<◌,
-  ◌≤◌,
-  ℕ,
-  zero,
-  suc,
-  ◌+◌,
-  ◌-◌,
-  ◌^◌,
-  ◌||◌,
-  true,
-  false,
-  List,
-  [],
-  ◌∷◌,
-  ◌++◌,
-  length,
-  drop,
-  get_or,
-  replicate,
-  Some,
-  slice_get,
-  refl,
-  sym,
-  subst,
-  ap,
-  ◌∙◌,
-  append_assoc,
-  length-append,
-  arith,
-}
+use Rattle.std.proofs.Common.{◌≡◌, ◌≢◌, ◌<◌, ◌≤◌, ℕ, zero, suc, ◌+◌, ◌-◌, ◌^◌, ◌||◌, true, false, List, [], ◌∷◌, ◌++◌, length, drop, get_or, replicate, Some, slice_get, refl, sym, subst, ap, ◌∙◌, append_assoc, length-append, arith}
 use Rattle.std.proofs.lemmas.Bool.{eq-eqb, ne_eqb}
 use Rattle.std.proofs.lemmas.List.{append-nil, drop_more, drop_all, length-replicate}
 use Rattle.ygg_cnf.specs.declared.lit.Lit.{Lit}
@@ -172,3 +140,13 @@ short_enough nodes term now places i d count table l s c m e f =
 pub none_left : (nodes : List Node) (term : Id) (now : Circuit) (places : List ℕ) (i : ℕ) → length places ≤ i → Filling nodes term now (drop i places)
     → Filling nodes term now []
 none_left nodes term now places i l f = subst (Filling nodes term now) (drop_all i places l) f
+
+-- the next place is behind the nodes so far, and a node stands there
+pub next_place : (nodes : List Node) (term : Id) (now : Circuit) (places : List ℕ) (i d : ℕ) → i < length places → Stands nodes term →
+    Filling nodes term now (drop i places) → (length now.table ≤ get_or places i d) × (get_or places i d < length nodes)
+next_place nodes term now places i d l s f =
+    let e = drop_more places i d l in
+    let behind = subst (AllFrom (length now.table)) e f.from in
+    let below = subst (AllBelow (term.0 + 1)) e f.below in
+    let there = below.0 in
+    (behind.0, omega (arith, s, there))

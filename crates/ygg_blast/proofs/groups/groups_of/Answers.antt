@@ -1,6 +1,6 @@
 use Rattle.std.proofs.Common.{true, ap, ◌∙◌, arith}
 use Rattle.ygg_gates.specs.Groups.{circuit, with_node}
-use Rattle.ygg_blast.proofs.Filling.{fill_begins_with, fill_next, fill_ends, none_left, short_enough}
+use Rattle.ygg_blast.proofs.Filling.{fill_begins_with, fill_next, fill_ends, next_place, none_left, short_enough}
 use Rattle.ygg_blast.proofs.groups.groups_of.Goals as goal
 
 pub loop-place-init : goal.loop-place-init
@@ -33,3 +33,13 @@ returns c =
     (circuit c.skip_to-2.new.self c.loop-place.sources c.loop-place.gates.items)
     c.requires.stands (ap (λ t. circuit t c.loop-place.sources c.loop-place.gates.items) c.skip_to-2.ensures)
     (none_left c.args.bank.now c.args.term _ c.args.places.now c.loop-place.place-index c.loop-place-test.false c.loop-place.invariant)
+
+pub skip_to-requires : goal.skip_to-requires
+skip_to-requires c =
+    (next_place c.args.bank.now c.args.term (circuit c.loop-place.table c.loop-place.sources c.loop-place.gates.items) c.args.places.now
+    c.loop-place.place-index 0 c.loop-place-test.true c.requires.stands c.loop-place.invariant).0
+
+pub node_at-node-requires : goal.node_at-node-requires
+node_at-node-requires c =
+    (next_place c.args.bank.now c.args.term (circuit c.loop-place.table c.loop-place.sources c.loop-place.gates.items) c.args.places.now
+    c.loop-place.place-index 0 c.loop-place-test.true c.requires.stands c.loop-place.invariant).1
