@@ -270,10 +270,12 @@ pub statement-returns-in_err-test-in-If : goal.statement-returns-in_err-test-in-
 statement-returns-in_err-test-in-If g t c = record { ran = IfOk-from_err c.from_residual.result _ c.from_residual.ensures.0 }
 
 pub statement-returns-in_err-middle-in-If : goal.statement-returns-in_err-middle-in-If
-statement-returns-in_err-middle-in-If g t c = record { ran = IfOk-from_err c.from_residual-in_err-middle-in-If.result _ c.from_residual-in_err-middle-in-If.ensures.0 }
+statement-returns-in_err-middle-in-If g t c =
+    record { ran = IfOk-from_err c.from_residual-in_err-middle-in-If.result _ c.from_residual-in_err-middle-in-If.ensures.0 }
 
 pub statement-returns-in_err-middle-in-If-2 : goal.statement-returns-in_err-middle-in-If-2
-statement-returns-in_err-middle-in-If-2 g t c = record { ran = IfOk-from_err c.from_residual-in_err-middle-in-If-2.result _ c.from_residual-in_err-middle-in-If-2.ensures.0 }
+statement-returns-in_err-middle-in-If-2 g t c =
+    record { ran = IfOk-from_err c.from_residual-in_err-middle-in-If-2.result _ c.from_residual-in_err-middle-in-If-2.ensures.0 }
 
 pub statements-returns-in_err-at : goal.statements-returns-in_err-at
 statements-returns-in_err-at g t c = record { ran = IfOk-from_err c.from_residual.result _ c.from_residual.ensures.0 }
