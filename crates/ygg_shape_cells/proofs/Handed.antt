@@ -1,44 +1,6 @@
 -- What a function answers that hands on what its calls answered.
-use Rattle.std.proofs.Common.{
-  ◌≡◌,
-  ◌+◌,
-  ◌*◌,
-  ◌<◌,
-  ◌≤◌,
-  ◌^◌,
-  ℕ,
-  suc,
-  Bool,
-  true,
-  false,
-  if◌then◌else◌,
-  nat_lt,
-  Option,
-  Some,
-  None,
-  Result,
-  Ok,
-  Err,
-  OnOk,
-  IfOk,
-  List,
-  [],
-  ◌∷◌,
-  ◌++◌,
-  length,
-  get_or,
-  map,
-  take,
-  sym,
-  ap,
-  ◌∙◌,
-  subst,
-  arith,
-  refl,
-  slice_get,
-  replicate,
-  All,
-}
+use Rattle.std.proofs.Common.{◌≡◌, ◌+◌, ◌*◌, ◌<◌, ◌≤◌, ℕ, suc, Bool, true, false, if◌then◌else◌, Option, None, Result, Ok, Err, OnOk, IfOk, List, [], ◌∷◌}
+use Rattle.std.proofs.Common.{◌++◌, length, get_or, map, take, sym, ap, ◌∙◌, subst, arith, refl, slice_get, replicate, All}
 use Rattle.std.proofs.Math.Nat.{suc-mul, mul-le-mul_right}
 use Rattle.std.proofs.lemmas.List.Elements.{All-replicate}
 use Rattle.std.proofs.lemmas.List.{take_more, map-append, length-replicate}

@@ -1,5 +1,4 @@
-use Rattle.std.proofs.Common.{◌<◌, ◌^◌, arith, nat_lt, ◌∙◌, sym}
-use Rattle.std.proofs.lemmas.Bool.Decides.{nat_tests}
+use Rattle.std.proofs.Common.{◌<◌, ◌^◌, nat_lt, ◌∙◌, sym}
 use Rattle.ygg_shape_cells.proofs.Answered.{split_shape}
 use Rattle.std.proofs.lemmas.Bool.{ltb-true}
 use Rattle.ygg_shape_words.specs.ygg_bank_proofs_Widths.{extends_self}

@@ -15,6 +15,7 @@ use Rattle.ygg_syntax.specs.declared.tree.Stmt.TheOpen.{Stmt-F}
 use Rattle.ygg_meaning_laws.specs.Direct.{stmt_direct}
 use Rattle.ygg_eval.specs.ygg_eval_expr.Known.{CanEvaluate}
 use Rattle.ygg_eval_places.specs.Walks.{Ended}
+use Rattle.std.proofs.lemmas.Result.{IfOk-from_err}
 use Rattle.ygg_eval_places.proofs.walker.Walker.+walk.Goals as goal
 
 pub block-returns : goal.block-returns
@@ -261,3 +262,26 @@ turns-returns g t c =
       ran = turns_end M file c.args.x.now c.args.w c.args.n c.args.each.now c.args.place (env_of c.args.names.now.items) (M.state c.args.state.now)
           c.loop-i.i c.loop-i.at (env_of c.loop-i.names.items) (M.state c.loop-i.state) c.loop-i-test.false c.loop-i.invariant.went;
     }
+
+pub block-returns-in_err-end : goal.block-returns-in_err-end
+block-returns-in_err-end g t c = record { ran = IfOk-from_err c.from_residual.result _ c.from_residual.ensures.0 }
+
+pub statement-returns-in_err-test-in-If : goal.statement-returns-in_err-test-in-If
+statement-returns-in_err-test-in-If g t c = record { ran = IfOk-from_err c.from_residual.result _ c.from_residual.ensures.0 }
+
+pub statement-returns-in_err-middle-in-If : goal.statement-returns-in_err-middle-in-If
+statement-returns-in_err-middle-in-If g t c =
+    record { ran = IfOk-from_err c.from_residual-in_err-middle-in-If.result _ c.from_residual-in_err-middle-in-If.ensures.0 }
+
+pub statement-returns-in_err-middle-in-If-2 : goal.statement-returns-in_err-middle-in-If-2
+statement-returns-in_err-middle-in-If-2 g t c =
+    record { ran = IfOk-from_err c.from_residual-in_err-middle-in-If-2.result _ c.from_residual-in_err-middle-in-If-2.ensures.0 }
+
+pub statements-returns-in_err-at : goal.statements-returns-in_err-at
+statements-returns-in_err-at g t c = record { ran = IfOk-from_err c.from_residual.result _ c.from_residual.ensures.0 }
+
+pub turns-returns-in_err-name_number : goal.turns-returns-in_err-name_number
+turns-returns-in_err-name_number g t c = record { ran = IfOk-from_err c.from_residual.result _ c.from_residual.ensures.0 }
+
+pub turns-returns-in_err-at : goal.turns-returns-in_err-at
+turns-returns-in_err-at g t c = record { ran = IfOk-from_err c.from_residual-in_err-at.result _ c.from_residual-in_err-at.ensures.0 }
