@@ -15,4 +15,5 @@ pub mod Parser
 pub mod Printed
 pub mod Runs
 pub mod StatementMarks
+pub mod StatementParts
 pub mod Reread
