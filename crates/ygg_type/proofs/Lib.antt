@@ -2,6 +2,7 @@ pub mod Counted
 pub mod Arguments
 pub mod Powers
 pub mod Restored
+pub mod RowCounts
 pub mod Few
 pub mod Least
 pub mod Parameters
