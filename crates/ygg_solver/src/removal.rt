@@ -32,6 +32,8 @@ pub struct Removal {
     levels: Vec<bool>,
     /// The places of level 0 that were come by are below it. They are implied by no others, and aren't asked for.
     lowest_end: usize,
+    /// How many clauses the chain had when it was asked what is implied: those that the conflict was resolved with.
+    resolved: usize,
 }
 
 impl Drop for Removal {
@@ -44,6 +46,7 @@ impl Drop for Removal {
             stack,
             levels,
             lowest_end: _,
+            resolved: _,
         } = self;
         drop(known);
         drop(touched);
@@ -65,6 +68,7 @@ impl Removal {
             stack: Vec::new(alloc),
             levels: Vec::new(alloc),
             lowest_end: 0,
+            resolved: 0,
         }
     }
 
@@ -76,6 +80,11 @@ impl Removal {
     /// A number that the places of level 0 are below whose literals are seen, or come in with the reasons of implied places.
     pub fn lowest_end(&self) -> usize {
         self.lowest_end
+    }
+
+    /// How many clauses of the chain the conflict was resolved with. Those after them were resolved with to leave literals out.
+    pub fn resolved(&self) -> usize {
+        self.resolved
     }
 
     /// Forgets what was found, and makes room for so many places.
@@ -374,6 +383,7 @@ pub fn find(
     chain: &[u64],
 ) -> Result<(), NoMemory> {
     removal.clear(trail.len())?;
+    removal.resolved = chain.len();
     removal.gather(seen, clauses, trail, places, start, chain)?;
     removal.ask_all(seen, clauses, trail, places)?;
     forget_levels(

@@ -31,21 +31,29 @@ fn level_after(restarts: &mut Restarts, level: u64) -> u64
     if restarts.is_due() { 0 } else { level }
 }
 
-/// Makes the variables of the clauses that were resolved more active.
-fn raise(order: &mut Order, clauses: &[PackedClause], chain: &[u64]) {
-    for id in chain {
+/// Counts the uses of variables in the clauses that the conflict was resolved with, which are the first of the chain, so many. What was resolved with
+/// besides, to leave literals out, has mostly decisions in common: were it counted, the search would decide the same few variables over and over.
+fn count_uses(
+    order: &mut Order,
+    clauses: &[PackedClause],
+    chain: &[u64],
+    resolved: usize,
+) -> Result<(), NoMemory> {
+    for id in chain.iter().take(resolved) {
         for lit in lits_of(clauses, *id) {
-            order.bump(lit.lit().var as usize);
+            order.count_use(lit.lit().var as usize)?;
         }
     }
+    order.end_uses();
+    Ok(())
 }
 
-/// The most literals of a learned clause whose reasons make variables more active.
-const REASON_SIDE: usize = 10;
+/// The most literals of a learned clause whose reasons' variables are counted.
+const REASON_SIDE: usize = 20;
 
-/// Makes the other variables in the reasons of a short learned clause's literals more active: the values of its own literals rest on them. (In clauses of
-/// any length it makes single searches many times longer.)
-fn raise_reasons(
+/// Counts the other variables in the reasons of a short learned clause's literals: the values of its own literals rest on them. (In clauses of any length it
+/// makes single searches many times longer.)
+fn count_reasons(
     order: &mut Order,
     clauses: &[PackedClause],
     trail: &[PackedEntry],
@@ -59,7 +67,7 @@ fn raise_reasons(
         for lit in reason_at(clauses, trail, place_of(places, *known)) {
             let lit = lit.lit();
             if lit.var != known.var {
-                order.bump(lit.var as usize);
+                order.count_reason(lit.var as usize);
             }
         }
     }
@@ -130,9 +138,9 @@ pub fn search<P: Trail>(
             removal,
         )?;
         let level = level_after(&mut restarts, level);
-        raise(order, held, chain.as_slice());
-        raise_reasons(order, held, trail, propagation.places(), clause.as_slice());
-        order.decay();
+        count_uses(order, held, chain.as_slice(), removal.resolved())?;
+        count_reasons(order, held, trail, propagation.places(), clause.as_slice());
+        order.end_conflict();
         release(order, trail, level)?;
         propagation.back(level);
         propagation.add(&clause)?;

@@ -1,3 +1,4 @@
+use crate::turns::Turns;
 use std::alloc::Global;
 use ygg_list::NoMemory;
 
@@ -16,10 +17,13 @@ struct Rank {
     activity: u64,
     /// Its place in the heap, and `usize::MAX` where it was taken.
     place: usize,
+    /// Whether it was used in this conflict, where that is kept.
+    is_used: bool,
 }
 
-/// Variables by activity, the most active first, with the value that each had last. Activity is that of the solver Chaff with
-/// the decay of MiniSat: what is added grows with time, so that later conflicts weigh more.
+/// Variables by activity, the most active first, with the value that each had last. Activity is made by two rules in turns. One is that of the solver Chaff
+/// with the decay of MiniSat: each use adds to it, and what is added grows with time, so that later conflicts weigh more. By the other the variables that
+/// the last conflict used are the most active ones, as in the queue of the solver Siege, and among themselves stay in order.
 pub struct Order {
     /// By variable.
     ranks: Vec<Rank>,
@@ -29,6 +33,11 @@ pub struct Order {
     phases: Vec<bool>,
     /// What the next conflict adds to an activity.
     step: u64,
+    turns: Turns,
+    /// The variables that were used in this conflict, each once and with its activity. It is empty in turns of the sum.
+    used: Vec<(u64, usize)>,
+    /// The activity that the last use gave last, or the greatest one when its turn began.
+    top: u64,
     work: Work,
 }
 
@@ -39,11 +48,15 @@ impl Drop for Order {
             heap,
             phases,
             step: _,
+            turns: _,
+            used,
+            top: _,
             work: _,
         } = self;
         drop(ranks);
         drop(heap);
         drop(phases);
+        drop(used);
     }
 }
 
@@ -53,12 +66,16 @@ impl Order {
         let taken = Rank {
             activity: 0,
             place: usize::MAX,
+            is_used: false,
         };
         let mut order = Order {
             ranks: Vec::from_elem(alloc, taken, variable_count)?,
             heap: Vec::with_capacity(alloc, variable_count)?,
             phases: Vec::from_elem(alloc, false, variable_count)?,
             step: 1 << 20,
+            turns: Turns::new(),
+            used: Vec::new(alloc),
+            top: 0,
             work: Work {
                 conflicts: 0,
                 values: 0,
@@ -95,21 +112,60 @@ impl Order {
         }
     }
 
-    /// Makes the variable more active.
-    pub fn bump(&mut self, var: usize) {
+    /// Counts a use of the variable in a clause that a conflict is resolved with. Its only error is out of memory.
+    pub fn count_use(&mut self, var: usize) -> Result<(), NoMemory> {
+        if self.turns.is_by_last_use() {
+            return self.keep_use(var);
+        }
+        self.add_use(var);
+        Ok(())
+    }
+
+    /// Counts a use of the variable in the reason of a learned literal: it adds to the activity in any turn, since some families lead the search astray
+    /// where it doesn't.
+    pub fn count_reason(&mut self, var: usize) {
+        self.add_use(var);
+    }
+
+    /// Adds to the activity of a variable.
+    fn add_use(&mut self, var: usize) {
         if add(self.ranks.as_mut_slice(), var, self.step) >= 1 << 60 {
             self.scale();
         }
         rise(self.ranks.as_mut_slice(), self.heap.as_mut_slice(), var);
     }
 
-    /// Makes what comes after a conflict weigh more.
-    pub fn decay(&mut self) {
+    /// Keeps that the variable is used in this conflict.
+    fn keep_use(&mut self, var: usize) -> Result<(), NoMemory> {
+        let ranks = self.ranks.as_mut_slice();
+        if var < ranks.len() && !ranks[var].is_used {
+            ranks[var].is_used = true;
+            self.used.push((ranks[var].activity, var))?;
+        }
+        Ok(())
+    }
+
+    /// Ends a conflict: what comes after it weighs more.
+    pub fn end_conflict(&mut self) {
         self.work.conflicts = self.work.conflicts.saturating_add(1);
         self.step = self.step.saturating_add(self.step / 19);
-        if self.step >= 1 << 58 {
+        if self.step >= 1 << 58 || self.top >= 1 << 60 {
             self.scale();
         }
+        if self.turns.count_conflict() {
+            self.top = greatest(self.ranks.as_slice());
+        }
+    }
+
+    /// Ends the uses of a conflict: the variables whose use was kept become the most active ones, in the order that they have.
+    pub fn end_uses(&mut self) {
+        self.used.sort_unstable();
+        for (_, var) in &self.used {
+            self.top = self.top.saturating_add(1);
+            raise_to(self.ranks.as_mut_slice(), *var, self.top);
+            rise(self.ranks.as_mut_slice(), self.heap.as_mut_slice(), *var);
+        }
+        self.used.clear();
     }
 
     /// Divides each activity and the step by the same number, long before a sum could be too great.
@@ -118,6 +174,7 @@ impl Order {
             rank.activity >>= 32;
         }
         self.step = (self.step >> 32) + 1;
+        self.top >>= 32;
     }
 
     /// Puts the variable back, if it was taken. Its only error is out of memory.
@@ -168,6 +225,25 @@ fn add(ranks: &mut [Rank], var: usize, step: u64) -> u64 {
         ranks[var].activity = sum;
     }
     sum
+}
+
+/// Sets the activity of a variable whose use was kept, and forgets that use.
+fn raise_to(ranks: &mut [Rank], var: usize, activity: u64) {
+    if var < ranks.len() {
+        ranks[var].activity = activity;
+        ranks[var].is_used = false;
+    }
+}
+
+/// The greatest activity, or 0 where there is none.
+fn greatest(ranks: &[Rank]) -> u64 {
+    let mut top = 0;
+    for rank in ranks {
+        if rank.activity > top {
+            top = rank.activity;
+        }
+    }
+    top
 }
 
 /// Moves a variable up to where no parent is less active.

@@ -19,6 +19,7 @@ mod propagate;
 mod restarts;
 mod spreading;
 mod status;
+mod turns;
 mod visit;
 mod watching;
 
