@@ -45,6 +45,7 @@ use Rattle.ygg_shape_words.specs.ygg_rules.Views.{IsWidth}
 use Rattle.ygg_shape_words.specs.ygg_rules.declared.rule.RuleKind.{RuleKind}
 use Rattle.ygg_shape_words.specs.ygg_bank_proofs_Exist.{values_fit}
 use Rattle.ygg_shape_words.specs.ygg_bank_proofs_Widths.{has_width, width_fits}
+use Rattle.ygg_shape_words.specs.ygg_bank.Makes.{Out}
 use Rattle.ygg_shape_words.specs.ygg_bank.Making.{known_in, same}
 use Rattle.ygg_shape_words.specs.ygg_bank.Nodes.{width_at, widths_of, HasWidth, Stands, InOrder, IsBank, Extends}
 use Rattle.ygg_shape_words.specs.ygg_bank.Values.{Inputs, Values, Fits, value_of}
@@ -52,12 +53,14 @@ use Rattle.ygg_shape_words.specs.ygg_bank.declared.node.Id.{Id}
 use Rattle.ygg_shape_words.specs.ygg_bank.declared.node.Node.{Node}
 use Rattle.ygg_shape_words.specs.ygg_bank.declared.node.Node.TheVariants.{Const}
 use Rattle.ygg_shape_cells.proofs.Rows.{RowIs, split_at_is}
-use Rattle.ygg_shape_cells.proofs.Tables.{RowsAre, selected_is, stored_is, stored_length}
+use Rattle.ygg_shape_cells.proofs.Selected.{within_is, constant_place}
+use Rattle.ygg_shape_cells.proofs.Tables.{RowsAre, stored_is, stored_length}
 use Rattle.ygg_shape_cells.proofs.Wider.{rows_wider, words_in_table, width_in_table}
 use Rattle.ygg_shape_cells.proofs.Worth.{digits, grid, row_worth, table_worth, table_like, merged_is}
-use Rattle.ygg_shape_cells.specs.Making.{merged, split_at, row_or_zeros, selected, selected_at, stored, width_in}
+use Rattle.ygg_shape_cells.specs.Making.{merged, split_at, row_or_zeros, selected, selected_at, selected_within, stored, width_in}
 use Rattle.ygg_shape_cells.specs.Meaning.{IsRead, IsWritten, IsMerged, IsConstant, AddsAtMostZero}
 use Rattle.ygg_shape_cells.specs.Terms.{IsRow, IsTable, HasShape, AreAlike, TableStands, CanStore, numbers_of, row_of, table_of, words_in}
+use Rattle.ygg_shape_cells.specs.declared.selecting.TheConstants.{PLACE_DEPTH}
 use Rattle.ygg_shape_cells.specs.declared.terms.SymValue.{SymValue}
 
 -- an environment that gives 0 to each input
@@ -110,27 +113,17 @@ pub selected_row : (inputs : Inputs) (v : Values) (kinds : List RuleKind) (n w :
     Fits inputs v (selected kinds table at old).nodes →
     RowIs inputs v (selected kinds table at old).nodes n w (unwrap_or (slice_get (map (numbers_of v) table) (v at.0).bits) (replicate n 0))
     (selected kinds table at old).value
-selected_row inputs v kinds n w table at old b s h =
-    let d = width_at (widths_of old) at in
-    let a = has_width old at s in
-    let l = h.limits in
-    subst (λ z. Fits inputs v (selected_at kinds table z at d (known_in (slice_get old at.0)) old).nodes →
-    RowIs inputs v (selected_at kinds table z at d (known_in (slice_get old at.0)) old).nodes n w
-    (unwrap_or (slice_get (map (numbers_of v) table) (v at.0).bits) (replicate n 0))
-    (selected_at kinds table z at d (known_in (slice_get old at.0)) old).value) (sym (width_in_table old table n w h))
-    (selected_is inputs v kinds n w d at table (known_in (slice_get old at.0)) old refl a (width_fits old at d b a)
-    (record { least = omega arith; most = omega arith })
-    (words_in_table old table n w h) h.rows)
+selected_row inputs v kinds n w table at old b s h = within_is inputs v kinds n w table PLACE_DEPTH at old b s h
 
-pub selected_shape : {E : Type 0} (kinds : List RuleKind) (n w : ℕ) (table : List (List Id)) (at : Id) (old new : List Node) (r : Result (List Id) E)
-    → IsBank old → IsBank new → Stands old at →
-    OnOk r (new ≡ (selected kinds table at old).nodes) → IfOk r (λ row. row ≡ (selected kinds table at old).value) → IsTable old n w table →
-    IfOk r (IsRow new n w)
-selected_shape kinds n w table at old new (Ok row) b c s e g h =
-    let o = selected kinds table at old in
-    let m = selected_row no_inputs (value_of no_inputs o.nodes) kinds n w table at old b.ordered s h (some_fit o.nodes (subst IsBank e c)) in
-    subst (λ z. IsRow z n w row) (sym e) (subst (IsRow o.nodes n w) (sym g) m.shaped)
-selected_shape kinds n w table at old new (Err x) b c s e g h = tt
+pub within_shape : {E : Type 0} (kinds : List RuleKind) (n w depth : ℕ) (table : List (List Id)) (at : Id) (o : Out (List Id)) (old new : List Node)
+    (r : Result (List Id) E) → o ≡ selected_within kinds table depth at old → IsBank old → IsBank new → Stands old at → OnOk r (new ≡ o.nodes) →
+    IfOk r (λ row. row ≡ o.value) → IsTable old n w table → IfOk r (IsRow new n w)
+within_shape kinds n w depth table at o old new (Ok row) a b c s e g h =
+    let p = selected_within kinds table depth at old in
+    let left : new ≡ p.nodes = e ∙ ap (λ (o : Out (List Id)). o.nodes) a in
+    let m = within_is no_inputs (value_of no_inputs p.nodes) kinds n w table depth at old b.ordered s h (some_fit p.nodes (subst IsBank left c)) in
+    subst (λ z. IsRow z n w row) (sym left) (subst (IsRow p.nodes n w) (sym (g ∙ ap (λ (o : Out (List Id)). o.value) a)) m.shaped)
+within_shape kinds n w depth table at o old new (Err x) a b c s e g h = tt
 
 -- a row with the numbers of a reading is what the reading gives
 pub read_is : (inputs : Inputs) (v : Values) (kinds : List RuleKind) (n w k : ℕ) (table : List (List Id)) (row : List Id) (nodes : List Node) →
@@ -179,7 +172,7 @@ at_most_zero kinds table w d at None x o nodes e f = absurd (cc)
 pub selected_constant : {E : Type 0} (kinds : List RuleKind) (table : List (List Id)) (at : Id) (old new : List Node) (r : Result (List Id) E) →
     OnOk r (new ≡ (selected kinds table at old).nodes) → IsConstant old at → OnOk r (AddsAtMostZero old new)
 selected_constant kinds table at old new (Ok row) e c =
-    subst (AddsAtMostZero old) (sym e)
+    subst (AddsAtMostZero old) (sym (e ∙ ap (λ o. o.nodes) (constant_place kinds table PLACE_DEPTH at c.0 old c.1)))
     (at_most_zero kinds table (width_in old table) (width_at (widths_of old) at) at (known_in (slice_get old at.0)) c.0
     (slice_get table (c.0).bits) old (ap known_in c.1) refl)
 selected_constant kinds table at old new (Err x) e c = tt

@@ -6,7 +6,7 @@ use Rattle.ygg_shape_words.specs.ygg_bank.Nodes.{Extends}
 use Rattle.ygg_shape_words.specs.ygg_bank.declared.node.Id.{Id}
 use Rattle.ygg_shape_words.specs.ygg_bank.declared.node.Node.{Node}
 use Rattle.ygg_shape_words.proofs.Keeps.{grows_stays}
-use Rattle.ygg_shape_cells.specs.Making.{merged_row, merged_rows, merged, split_at, where_at, zeros, chosen, selected, stored_from, stored}
+use Rattle.ygg_shape_cells.specs.Making.{merged_row, merged_rows, merged, split_at, where_at, zeros, chosen, selected, selected_within, stored_from, stored}
 use Rattle.ygg_shape_cells.specs.declared.terms.SymValue.{SymValue}
 use Rattle.ygg_shape_cells.specs.Guarding.{guarded_split, guarded_at, guarded_from, stored_where}
 use Rattle.ygg_shape_cells.proofs.Keeps.{
@@ -17,6 +17,7 @@ use Rattle.ygg_shape_cells.proofs.Keeps.{
   where_at_keeps,
   zeros_keeps,
   chosen_keeps,
+  within_keeps,
   selected_keeps,
   stored_from_keeps,
   stored_keeps,
@@ -51,6 +52,9 @@ module _ (kinds : List RuleKind) where
       Extends nodes (chosen kinds at width past number rows nodes).nodes
   chosen_grows at width past number rows nodes = chosen_keeps kinds (Extends nodes) (grows_stays kinds nodes) at width past number rows nodes
       (extends_self nodes)
+
+  pub within_grows : (table : List (List Id)) (depth : ℕ) (at : Id) (nodes : List Node) → Extends nodes (selected_within kinds table depth at nodes).nodes
+  within_grows table depth at nodes = within_keeps kinds (Extends nodes) (grows_stays kinds nodes) table depth at nodes (extends_self nodes)
 
   pub selected_grows : (table : List (List Id)) (at : Id) (nodes : List Node) → Extends nodes (selected kinds table at nodes).nodes
   selected_grows table at nodes = selected_keeps kinds (Extends nodes) (grows_stays kinds nodes) table at nodes (extends_self nodes)

@@ -1,5 +1,5 @@
 -- What a function answers that hands on what its calls answered.
-use Rattle.std.proofs.Common.{◌≡◌, ◌+◌, ◌*◌, ◌<◌, ◌≤◌, ℕ, suc, Bool, true, false, if◌then◌else◌, Option, None, Result, Ok, Err, OnOk, IfOk, List, [], ◌∷◌}
+use Rattle.std.proofs.Common.{◌≡◌, ◌+◌, ◌-◌, ◌*◌, ◌<◌, ◌≤◌, ℕ, suc, Bool, true, false, if◌then◌else◌, Option, Some, None, Result, Ok, Err, OnOk, IfOk, List, [], ◌∷◌}
 use Rattle.std.proofs.Common.{◌++◌, length, get_or, map, take, sym, ap, ◌∙◌, subst, arith, refl, slice_get, replicate, All}
 use Rattle.std.proofs.Math.Nat.{suc-mul, mul-le-mul_right}
 use Rattle.std.proofs.lemmas.List.Elements.{All-replicate}
@@ -13,14 +13,15 @@ use Rattle.ygg_shape_words.specs.ygg_bank.Making.{made, known_in}
 use Rattle.ygg_shape_words.specs.ygg_bank.Nodes.{width_at, widths_of, HasWidth}
 use Rattle.ygg_shape_words.specs.ygg_bank.declared.node.Id.{Id}
 use Rattle.ygg_shape_words.specs.ygg_bank.declared.node.Node.{Node}
-use Rattle.ygg_shape_words.specs.ygg_bank.declared.node.Node.TheVariants.{Const, Bin}
+use Rattle.ygg_shape_words.specs.ygg_bank.declared.node.Node.TheVariants.{Const, Bin, Pick}
 use Rattle.ygg_shape_words.specs.Same.{same_words}
 use Rattle.ygg_shape_cells.specs.Guarding.{guarded_split, guarded_from, stored_where, stored_where_at}
-use Rattle.ygg_shape_cells.specs.Making.{merged, merged_row, split_at, zeros, chosen, selected, selected_at, stored, width_in}
+use Rattle.ygg_shape_cells.specs.Making.{merged, merged_row, split_at, zeros, chosen, selected, selected_at, selected_by_number, selected_within, stored, width_in}
 use Rattle.ygg_shape_cells.specs.RowPlaces.{first, single, singles, word_selected, word_stored}
 use Rattle.ygg_shape_cells.specs.Terms.{IsRow, words_in}
 use Rattle.ygg_shape_cells.specs.declared.terms.SymValue.{SymValue}
 use Rattle.ygg_shape_cells.specs.declared.terms.SymValue.TheVariants.{Word, Row, Table}
+use Rattle.ygg_shape_cells.proofs.Selected.{within_node}
 use Rattle.ygg_shape_cells.proofs.Singles.{first_is}
 
 -- a row that lies within ends within
@@ -107,17 +108,28 @@ module _ (kinds : List RuleKind) where
 
   -- the row at a place that is known to be this number, or not known
   pub selected_as : (table : List (List Id)) (at : Id) (old : List Node) (o : Option Number) → known_in (slice_get old at.0) ≡ o →
-      selected_at kinds table (width_in old table) at (width_at (widths_of old) at) o old ≡ selected kinds table at old
+      selected_at kinds table (width_in old table) at (width_at (widths_of old) at) o old ≡ selected_by_number kinds table at old
   selected_as table at old o e = ap (λ z. selected_at kinds table (width_in old table) at (width_at (widths_of old) at) z old) (sym e)
 
   pub chosen_goes : (table : List (List Id)) (at : Id) (w : ℕ) (past : List Id) (old made_first : List Node) → known_in (slice_get old at.0) ≡ None →
       w ≡ width_at (widths_of old) at → past ≡ (zeros kinds (words_in table) (width_in old table) old).value →
       made_first ≡ (zeros kinds (words_in table) (width_in old table) old).nodes →
-      chosen kinds at w past 0 table made_first ≡ selected kinds table at old
+      chosen kinds at w past 0 table made_first ≡ selected_by_number kinds table at old
   chosen_goes table at w past old made_first n e f g =
       ap (λ z. chosen kinds at z past 0 table made_first) e
       ∙ goes (zeros kinds (words_in table) (width_in old table) old) past made_first (λ past. chosen kinds at (width_at (widths_of old) at) past 0 table) f g
       ∙ selected_as table at old None n
+
+  -- rows at two places, and the one that is picked of them
+  pub rows_picked : (table : List (List Id)) (depth : ℕ) (at t x y : Id) (xs ys one two : List Id) (old first second : List Node) → 0 < depth →
+      slice_get old at.0 ≡ Some (Pick t x y) → xs ≡ one → ys ≡ two → one ≡ (selected_within kinds table (depth - 1) x old).value →
+      first ≡ (selected_within kinds table (depth - 1) x old).nodes → two ≡ (selected_within kinds table (depth - 1) y first).value →
+      second ≡ (selected_within kinds table (depth - 1) y first).nodes → merged_row kinds t xs ys second ≡ selected_within kinds table depth at old
+  rows_picked table depth at t x y xs ys one two old first second l n a b e f g h =
+      let step = selected_within kinds table (depth - 1) in
+      goes (step y first) ys second (λ two. merged_row kinds t xs two) (b ∙ g) h
+      ∙ goes (step x old) xs first (λ one. and_make (step y) (λ two. merged_row kinds t one two)) (a ∙ e) f
+      ∙ within_node kinds table depth at (Pick t x y) old l n
 
   pub stored_where_as : (t : Id) (table : List (List Id)) (at : Id) (row : List Id) (old : List Node) (o : Option Number) →
       known_in (slice_get old at.0) ≡ o →

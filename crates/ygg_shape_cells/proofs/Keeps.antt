@@ -1,5 +1,5 @@
 -- What holds of nodes, and stays as nodes other than inputs are made, holds after merging, selecting and storing.
-use Rattle.std.proofs.Common.{◌+◌, ◌^◌, ℕ, Bool, true, false, if◌then◌else◌, Option, Some, None, List, [], ◌∷◌, slice_get}
+use Rattle.std.proofs.Common.{◌+◌, ◌^◌, ℕ, zero, suc, Bool, true, false, if◌then◌else◌, Option, Some, None, List, [], ◌∷◌, slice_get}
 use Rattle.std.specs.Prelude.{nat_lt}
 use Rattle.ygg_value.specs.Number.{Number}
 use Rattle.ygg_value.specs.Words.{word}
@@ -10,7 +10,7 @@ use Rattle.ygg_shape_words.specs.ygg_bank.Making.{known_in, made}
 use Rattle.ygg_shape_words.specs.ygg_bank.Nodes.{width_at, widths_of}
 use Rattle.ygg_shape_words.specs.ygg_bank.declared.node.Id.{Id}
 use Rattle.ygg_shape_words.specs.ygg_bank.declared.node.Node.{Node}
-use Rattle.ygg_shape_words.specs.ygg_bank.declared.node.Node.TheVariants.{Const, Bin}
+use Rattle.ygg_shape_words.specs.ygg_bank.declared.node.Node.TheVariants.{Const, Bin, Pick}
 use Rattle.ygg_shape_words.proofs.Keeps.{Stays, picked_keeps, same_words_keeps}
 use Rattle.ygg_shape_words.specs.Same.{same_words}
 use Rattle.ygg_shape_words.specs.Picking.{picked}
@@ -26,12 +26,16 @@ use Rattle.ygg_shape_cells.specs.Making.{
   row_or_zeros,
   selected,
   selected_at,
+  selected_by_number,
+  selected_of,
+  selected_within,
   width_in,
   stored_from,
   stored,
   stored_at,
 }
 use Rattle.ygg_shape_cells.specs.Terms.{words_in}
+use Rattle.ygg_shape_cells.specs.declared.selecting.TheConstants.{PLACE_DEPTH}
 use Rattle.ygg_shape_cells.specs.declared.terms.SymValue.{SymValue}
 use Rattle.ygg_shape_cells.specs.declared.terms.SymValue.TheVariants as value
 use Rattle.ygg_shape_cells.specs.Guarding.{guarded_split, guarded_at, guarded_from, guarded_known, stored_where, stored_where_at}
@@ -111,9 +115,25 @@ module _ (kinds : List RuleKind) (P : List Node → Type 0) (stays : Stays kinds
   selected_at_keeps table width at digits None nodes p =
       let o = zeros kinds (words_in table) width nodes in chosen_keeps at digits o.value 0 table o.nodes (zeros_keeps (words_in table) width nodes p)
 
-  pub selected_keeps : (table : List (List Id)) (at : Id) (nodes : List Node) → P nodes → P (selected kinds table at nodes).nodes
-  selected_keeps table at nodes p =
+  by_number_keeps : (table : List (List Id)) (at : Id) (nodes : List Node) → P nodes → P (selected_by_number kinds table at nodes).nodes
+  by_number_keeps table at nodes p =
       selected_at_keeps table (width_in nodes table) at (width_at (widths_of nodes) at) (known_in (slice_get nodes at.0)) nodes p
+
+  selected_of_keeps : (table : List (List Id)) (next : Id → Make (List Id)) → ((at : Id) (nodes : List Node) → P nodes → P (next at nodes).nodes) →
+      (at : Id) (n : Option Node) (nodes : List Node) → P nodes → P (selected_of kinds table next at n nodes).nodes
+  selected_of_keeps table next s at (Some (Pick t x y)) nodes p =
+      let one = next x nodes in
+      let two = next y one.nodes in merged_row_keeps t one.value two.value two.nodes (s y one.nodes (s x nodes p))
+  selected_of_keeps table next s at n nodes p = by_number_keeps table at nodes p
+
+  pub within_keeps : (table : List (List Id)) (depth : ℕ) (at : Id) (nodes : List Node) → P nodes → P (selected_within kinds table depth at nodes).nodes
+  unfolding selected_within
+  within_keeps table zero at nodes p = by_number_keeps table at nodes p
+  within_keeps table (suc depth) at nodes p =
+      selected_of_keeps table (selected_within kinds table depth) (within_keeps table depth) at (slice_get nodes at.0) nodes p
+
+  pub selected_keeps : (table : List (List Id)) (at : Id) (nodes : List Node) → P nodes → P (selected kinds table at nodes).nodes
+  selected_keeps table at nodes p = within_keeps table PLACE_DEPTH at nodes p
 
   pub stored_from_keeps : (at : Id) (width : ℕ) (new : List Id) (number : ℕ) (rows : List (List Id)) (nodes : List Node) → P nodes →
       P (stored_from kinds at width new number rows nodes).nodes

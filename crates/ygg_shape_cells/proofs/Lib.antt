@@ -11,6 +11,7 @@ pub mod Words
 pub mod Rows
 pub mod Tables
 pub mod Worth
+pub mod Selected
 pub mod Answered
 pub mod Guards
 pub mod Guarded

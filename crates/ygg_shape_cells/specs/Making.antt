@@ -1,5 +1,5 @@
 -- What merging, selecting and storing make in a bank, under a book of these kinds.
-use Rattle.std.specs.Prelude.{ℕ, ◌^◌, nat_lt, if◌then◌else◌, Option, Some, None, List, ◌∷◌, replicate, slice_get, slice_set}
+use Rattle.std.specs.Prelude.{ℕ, zero, suc, ◌^◌, nat_lt, if◌then◌else◌, Option, Some, None, List, ◌∷◌, replicate, slice_get, slice_set}
 use Rattle.ygg_value.specs.Number.{Number}
 use Rattle.ygg_value.specs.Words.{word}
 use Rattle.ygg_shape_words.specs.ygg_rules.declared.rule.RuleKind.{RuleKind}
@@ -8,11 +8,12 @@ use Rattle.ygg_shape_words.specs.ygg_bank.Making.{known_in, made}
 use Rattle.ygg_shape_words.specs.ygg_bank.Nodes.{width_at, widths_of}
 use Rattle.ygg_shape_words.specs.ygg_bank.declared.node.Id.{Id}
 use Rattle.ygg_shape_words.specs.ygg_bank.declared.node.Node.{Node}
-use Rattle.ygg_shape_words.specs.ygg_bank.declared.node.Node.TheVariants.{Const}
+use Rattle.ygg_shape_words.specs.ygg_bank.declared.node.Node.TheVariants.{Const, Pick}
 use Rattle.ygg_shape_words.specs.Picking.{picked}
 use Rattle.ygg_shape_words.specs.Same.{same_words}
 use Rattle.ygg_shape_cells.specs.Lists.{each_two, each_from, fold_from}
 use Rattle.ygg_shape_cells.specs.Terms.{words_in}
+use Rattle.ygg_shape_cells.specs.declared.selecting.TheConstants.{PLACE_DEPTH}
 use Rattle.ygg_shape_cells.specs.declared.terms.SymValue.{SymValue}
 use Rattle.ygg_shape_cells.specs.declared.terms.SymValue.TheVariants.{Word, Row, Table}
 
@@ -63,9 +64,24 @@ abbrev pub selected_at : List RuleKind → List (List Id) → ℕ → Id → ℕ
 selected_at kinds table width at digits (Some k) = row_or_zeros kinds (words_in table) width (slice_get table k.bits)
 selected_at kinds table width at digits None = and_make (zeros kinds (words_in table) width) (λ past. chosen kinds at digits past 0 table)
 
+-- the row of a table at a place, whose number is compared with that of each row where it isn't known
+abbrev pub selected_by_number : List RuleKind → List (List Id) → Id → Make (List Id)
+selected_by_number kinds table at nodes =
+    selected_at kinds table (width_in nodes table) at (width_at (widths_of nodes) at) (known_in (slice_get nodes at.0)) nodes
+
+-- the row of a table at a place, where this node stands: of a pick of two places a pick of the rows there, which the step reads
+abbrev pub selected_of : List RuleKind → List (List Id) → (Id → Make (List Id)) → Id → Option Node → Make (List Id)
+selected_of kinds table next at (Some (Pick t x y)) = and_make (next x) (λ one. and_make (next y) (λ two. merged_row kinds t one two))
+selected_of kinds table next at n = selected_by_number kinds table at
+
+-- the row of a table at a place that may be so many picks of places one within another
+unfoldable pub selected_within : List RuleKind → List (List Id) → ℕ → Id → Make (List Id)
+selected_within kinds table zero at = selected_by_number kinds table at
+selected_within kinds table (suc depth) at = λ nodes. selected_of kinds table (selected_within kinds table depth) at (slice_get nodes at.0) nodes
+
 -- the row of a table at a place
 abbrev pub selected : List RuleKind → List (List Id) → Id → Make (List Id)
-selected kinds table at nodes = selected_at kinds table (width_in nodes table) at (width_at (widths_of nodes) at) (known_in (slice_get nodes at.0)) nodes
+selected kinds table at = selected_within kinds table PLACE_DEPTH at
 
 -- the rows, numbered on from a number, and the new row in the stead of the one at the place
 abbrev pub stored_from : List RuleKind → Id → ℕ → List Id → ℕ → List (List Id) → Make (List (List Id))

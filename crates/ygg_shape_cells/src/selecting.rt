@@ -5,18 +5,23 @@ ghost use Rattle.ygg_shape_words.specs.ygg_rules.Views.{IsWidth};
 ghost use Rattle.ygg_shape_words.specs.ygg_bank.Inputs.{KeepsInputs};
 ghost use Rattle.ygg_shape_words.specs.ygg_bank.Nodes.{Extends, HasWidth, IsBank, Stands};
 ghost use Rattle.ygg_shape_words.specs.ygg_bank.Values.{KeepsValues};
-ghost use Rattle.ygg_shape_cells.specs.Making.{chosen, selected};
+ghost use Rattle.ygg_shape_cells.specs.Making.{chosen, selected, selected_by_number, selected_within};
 ghost use Rattle.ygg_shape_cells.specs.Meaning.{AddsAtMostZero, IsConstant, IsRead};
 ghost use Rattle.ygg_shape_cells.specs.Terms.{AreRows, IsRow, IsTable, TableStands};
 
 use crate::cells::{row_or_zeros, zeros};
+use crate::merging::merge_row;
 use crate::places::{TermPlace, where_at};
 use crate::terms::{SymRow, SymTable};
 use std::alloc::Global;
-use ygg_shape_words::{Bank, Book, Id, NoMemory, known};
+use ygg_shape_words::{Bank, Book, Id, NoMemory, Node, known};
+
+/// How many picks of places one within another a place is looked through.
+pub const PLACE_DEPTH: u32 = 2;
 
 /// The row at a place of a table, counted from 0, and zeros past the end, in every environment. Where the place is a constant no pick is
-/// made; else a chain of picks over all rows. Its only error is out of memory, after which the bank may have more nodes.
+/// made. Where it is a pick of two places, the answer picks one of the rows there. Else a chain of picks over all rows is made. Its only
+/// error is out of memory, after which the bank may have more nodes.
 pub fn select<B: Book>(
     alloc: Global,
     bank: &mut Bank,
@@ -38,11 +43,42 @@ pub fn select<B: Book>(
 {
     // the bank's nodes stand in order
     let _ = bank.len();
-    select_by(alloc, bank, book, table.as_slice(), at)
+    select_within(alloc, bank, book, PLACE_DEPTH, table.as_slice(), at)
 }
 
-/// What `select` does.
-fn select_by<B: Book>(
+/// The row at a place that may be so many picks of places one within another.
+fn select_within<B: Book>(
+    alloc: Global,
+    bank: &mut Bank,
+    book: &B,
+    depth: u32,
+    table: &[SymRow],
+    at: Id,
+) -> Result<SymRow, NoMemory>
+    requires bank { IsBank bank.old }
+    requires table { TableStands bank.old table.now }
+    requires at { Stands bank.old at }
+    ensures nodes { OnOk result (bank.new ≡ (selected_within (B.kinds book.now) table.now depth at bank.old).nodes) }
+    ensures form { IfOk result (λ row. row ≡ (selected_within (B.kinds book.now) table.now depth at bank.old).value) }
+    ensures shape { (words width : ℕ) → IsTable bank.old words width table.now → IfOk result (IsRow bank.new words width) }
+    ensures grows { Extends bank.old bank.new }
+    ensures bank { IsBank bank.new }
+{
+    if depth == 0 {
+        return select_by_number(alloc, bank, book, table, at);
+    }
+    match bank.node(at) {
+        Node::Pick { test, yes, no } => {
+            let one = select_within(alloc, bank, book, depth - 1, table, yes)?;
+            let two = select_within(alloc, bank, book, depth - 1, table, no)?;
+            merge_row(alloc, bank, book, test, one.as_slice(), two.as_slice())
+        }
+        _ => select_by_number(alloc, bank, book, table, at),
+    }
+}
+
+/// The row at a place, whose number is compared with that of each row where it isn't known.
+fn select_by_number<B: Book>(
     alloc: Global,
     bank: &mut Bank,
     book: &B,
@@ -52,8 +88,8 @@ fn select_by<B: Book>(
     requires bank { IsBank bank.old }
     requires table { TableStands bank.old table.now }
     requires at { Stands bank.old at }
-    ensures nodes { OnOk result (bank.new ≡ (selected (B.kinds book.now) table.now at bank.old).nodes) }
-    ensures form { IfOk result (λ row. row ≡ (selected (B.kinds book.now) table.now at bank.old).value) }
+    ensures nodes { OnOk result (bank.new ≡ (selected_by_number (B.kinds book.now) table.now at bank.old).nodes) }
+    ensures form { IfOk result (λ row. row ≡ (selected_by_number (B.kinds book.now) table.now at bank.old).value) }
     ensures grows { Extends bank.old bank.new }
     ensures bank { IsBank bank.new }
 {

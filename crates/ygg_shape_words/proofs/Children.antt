@@ -4,6 +4,7 @@ use Rattle.std.proofs.lemmas.List.{take-append-drop}
 use Rattle.ygg_value.specs.Number.{Number}
 use Rattle.ygg_value.specs.Words.{word, CanApply}
 use Rattle.ygg_value.specs.declared.operation.Op.{Op}
+use Rattle.ygg_value.specs.declared.operation.Op.TheVariants.{Shl}
 use Rattle.ygg_bank.proofs.Widths.{wider, stands, width_is, has_width, own_width, stored_can}
 use Rattle.ygg_bank.specs.Making.{id}
 use Rattle.ygg_bank.specs.Nodes.{width_at, widths_of, HasWidth, Stands, InOrder, Extends}
@@ -39,6 +40,18 @@ not_wide nodes k w a o e h =
     let u = width_at (widths_of (take k nodes)) a in
     let own : u ≡ w =
     sym (width_is nodes a u wide) ∙ sym (width_is nodes (id k) (width_at (widths_of nodes) a) (own_width nodes k (Not a) o e)) ∙ width_is nodes (id k) w h in
+    wide ∙ ap (λ z. Some z) own
+
+-- what is moved up has the width that it is moved up at
+pub shift_wide : (nodes : List Node) (k w : ℕ) (a b : Id) → InOrder [] nodes → slice_get nodes k ≡ Some (Bin Shl a b) → HasWidth nodes (id k) w →
+    HasWidth nodes a w
+shift_wide nodes k w a b o e h =
+    let c = stored_can nodes k (Bin Shl a b) o e in
+    let wide = there nodes k a c.one in
+    let u = width_at (widths_of (take k nodes)) a in
+    let own : u ≡ w =
+    sym (width_is nodes a u wide) ∙ sym (width_is nodes (id k) (width_at (widths_of nodes) a) (own_width nodes k (Bin Shl a b) o e))
+    ∙ width_is nodes (id k) w h in
     wide ∙ ap (λ z. Some z) own
 
 pub bin_stands : (nodes : List Node) (k : ℕ) (op : Op) (a b : Id) → InOrder [] nodes → slice_get nodes k ≡ Some (Bin op a b) → Stands nodes a × Stands nodes b

@@ -164,12 +164,12 @@ module _ (inputs : Inputs) (v : Values) where
       HasWidth nodes a w → HasWidth nodes b w → Fits inputs v nodes → FormIs a b (against_known nodes a b m n)
   known_case nodes a b w m (Some k) e f i j h =
       let g = constant_there nodes b k f in
-      constant_case nodes h a b k (against nodes k (slice_get nodes a.0)) (h.values b.0 (Const k) g)
-      (against_is inputs v nodes h a k (slice_get nodes a.0) refl (constant_wide nodes a b w k h.ordered g i j) (constant_word nodes b.0 k h.ordered g))
+      constant_case nodes h a b k (against nodes a k) (h.values b.0 (Const k) g)
+      (against_is inputs v nodes h a k (constant_wide nodes a b w k h.ordered g i j) (constant_word nodes b.0 k h.ordered g))
   known_case nodes a b w (Some k) None e f i j h =
       let g = constant_there nodes a k e in
-      other_case nodes h a b k (against nodes k (slice_get nodes b.0)) (h.values a.0 (Const k) g)
-      (against_is inputs v nodes h b k (slice_get nodes b.0) refl (constant_wide nodes b a w k h.ordered g j i) (constant_word nodes a.0 k h.ordered g))
+      other_case nodes h a b k (against nodes b k) (h.values a.0 (Const k) g)
+      (against_is inputs v nodes h b k (constant_wide nodes b a w k h.ordered g j i) (constant_word nodes a.0 k h.ordered g))
   known_case nodes a b w None None e f i j h = tt
 
   nodes_case : (nodes : List Node) (a b : Id) (w : ℕ) (m n : Option Node) → slice_get nodes a.0 ≡ m → slice_get nodes b.0 ≡ n → HasWidth nodes a w →

@@ -116,13 +116,13 @@ against_case inputs v nodes h a k (form.Either x y p q) d = absurd d
 against_case inputs v nodes h a k (form.Against x m) d = (d.0, d.1)
 
 against_fits : (nodes : List Node) (a b : Id) (w : ℕ) (k : Number) → InOrder [] nodes → known_in (slice_get nodes b.0) ≡ Some k → HasWidth nodes a w →
-    HasWidth nodes b w → FormFits nodes (against nodes k (slice_get nodes a.0))
+    HasWidth nodes b w → FormFits nodes (against nodes a k)
 against_fits nodes a b w k o e h d =
     let inputs : Inputs = λ number. 0 in
     let fit = values_fit inputs nodes o (λ place number w e. pow_pos w) in
     let f = constant_there nodes b k e in
-    against_case inputs (value_of inputs nodes) nodes fit a k (against nodes k (slice_get nodes a.0))
-    (against_is inputs (value_of inputs nodes) nodes fit a k (slice_get nodes a.0) refl (constant_wide nodes a b w k o f h d) (constant_word nodes b.0 k o f))
+    against_case inputs (value_of inputs nodes) nodes fit a k (against nodes a k)
+    (against_is inputs (value_of inputs nodes) nodes fit a k (constant_wide nodes a b w k o f h d) (constant_word nodes b.0 k o f))
 
 known_case : (nodes : List Node) (a b : Id) (w : ℕ) (m n : Option Number) → InOrder [] nodes → known_in (slice_get nodes a.0) ≡ m →
     known_in (slice_get nodes b.0) ≡ n → HasWidth nodes a w → HasWidth nodes b w → FormFits nodes (against_known nodes a b m n)

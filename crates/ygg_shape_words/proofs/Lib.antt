@@ -2,6 +2,7 @@ pub use Rattle.ygg_bank.proofs as of_ygg_bank
 pub mod Terms
 pub mod Children
 pub mod Tests
+pub mod Masks
 pub mod Undone
 pub mod Fit
 pub mod Keeps

@@ -1,8 +1,10 @@
--- Equalities of numbers under a modulus, undone.
-use Rattle.std.specs.Prelude.{nat_lt}
-use Rattle.std.proofs.Common.{◌≡◌, ◌<◌, ◌≤◌, ◌==◌, ◌+◌, ◌-◌, ◌*◌, ◌%◌, ◌^◌, ◌⊎◌, inl, inr, ℕ, Bool, true, false, refl, sym, ap, ◌∙◌, arith}
-use Rattle.std.proofs.Math.Nat.{mod-eq_of_lt, mod-eq-sub-mod, mul_assoc, mul_comm, mul-one}
-use Rattle.std.proofs.lemmas.Nat.{mul-mod_first, mul-mod_second}
+-- Equalities of numbers, undone.
+use Rattle.std.specs.Prelude.{nat_lt, bit_and}
+use Rattle.std.specs.Int.Bits.{bit_or, bit_xor, xor_assoc, xor_self, xor_zero_r, and_zero_r, or_add_and, xor_add_and}
+use Rattle.std.proofs.Common.{◌≡◌, ◌<◌, ◌≤◌, ◌==◌, ◌+◌, ◌-◌, ◌*◌, ◌/◌, ◌%◌, ◌^◌, ◌⊎◌, inl, inr, ℕ, Bool, true, false, if◌then◌else◌}
+use Rattle.std.proofs.Common.{refl, sym, ap, ◌∙◌, subst, arith}
+use Rattle.std.proofs.Math.Nat.{mod-eq_of_lt, mod-eq-sub-mod, mod-lt, mul_assoc, mul_comm, mul-one, mul-le-mul_right, mul-div_cancel, div-mul-le_self}
+use Rattle.std.proofs.lemmas.Nat.{mul-mod_first, mul-mod_second, and_assoc, and_le_r}
 use Rattle.std.proofs.lemmas.Bool.{cases_lt}
 use Rattle.std.proofs.lemmas.Bool.Decides.{nat_tests, Decides-eqb}
 
@@ -78,6 +80,48 @@ mul_undone m x c i k p q e = same_test ((x * c) % m) k x ((k * i) % m) forth bac
 
 pub not_undone : (m x k : ℕ) → x < m → k < m → (m - 1 - x == k) ≡ (x == m - 1 - k)
 not_undone m x k p q = same_test (m - 1 - x) k x (m - 1 - k) (λ e. omega arith) (λ e. omega arith)
+
+xor_back : (a c : ℕ) → bit_xor (bit_xor a c) c ≡ a
+xor_back a c = xor_assoc a c c ∙ ap (bit_xor a) (xor_self c) ∙ xor_zero_r a
+
+pub xor_undone : (x c k : ℕ) → (bit_xor x c == k) ≡ (x == bit_xor k c)
+xor_undone x c k =
+    same_test (bit_xor x c) k x (bit_xor k c) (λ h. sym (xor_back x c) ∙ ap (λ z. bit_xor z c) h) (λ h. ap (λ z. bit_xor z c) h ∙ xor_back k c)
+
+-- of numbers that share no digit
+or_is_xor : (x c : ℕ) → bit_and x c ≡ 0 → bit_or x c ≡ bit_xor x c
+or_is_xor x c e = sums (bit_or x c) (bit_xor x c) (bit_and x c) (x + c) e (or_add_and x c) (xor_add_and x c) where
+  sums : (o z d s : ℕ) → d ≡ 0 → o + d ≡ s → z + d * 2 ≡ s → o ≡ z
+  sums o z d s e f g = omega arith
+
+-- of a number that has no other digits than m, which has none of those of c
+pub or_undone : (x m c k : ℕ) → bit_and x m ≡ x → bit_and m c ≡ 0 → (bit_or x c == k) ≡ (x == bit_xor k c)
+or_undone x m c k h e =
+    let apart : bit_and x c ≡ 0 = ap (λ z. bit_and z c) (sym h) ∙ and_assoc c x m ∙ ap (bit_and x) e ∙ and_zero_r x in
+    ap (λ z. z == k) (or_is_xor x c apart) ∙ xor_undone x c k
+
+-- a number at a width whose modulus is m, moved up by as many digits as p says, and moved down: both are 0 where that is too far
+abbrev pub up : Bool → ℕ → ℕ → ℕ → ℕ
+up b p m x = if b then (x * p) % m else 0
+
+abbrev pub down : Bool → ℕ → ℕ → ℕ
+down b p x = if b then x / p else 0
+
+-- a number that has no other digits than those of one that comes back comes back
+comes_down : (b : Bool) (p m x n : ℕ) → 0 < p → 0 < m → bit_and x n ≡ x → down b p (up b p m n) ≡ n → down b p (up b p m x) ≡ x
+comes_down true p m x n i j h e =
+    let less : x ≤ n = subst (λ z. z ≤ n) h (and_le_r x n) in
+    let most : n * p ≤ (n * p) % m = subst (λ z. z * p ≤ (n * p) % m) e (div-mul-le_self ((n * p) % m) p) in
+    let bound : (n * p) % m < m = mod-lt (n * p) j in
+    let wide : x * p ≤ n * p = mul-le-mul_right p less in
+    let l : x * p < m = omega arith in
+    ap (λ z. z / p) (mod-eq_of_lt l) ∙ mul-div_cancel x i
+comes_down false p m x n i j h e = sym (sym h ∙ ap (bit_and x) (sym e) ∙ and_zero_r x)
+
+pub shift_undone : (b : Bool) (p m x n k : ℕ) → 0 < p → 0 < m → bit_and x n ≡ x → down b p (up b p m n) ≡ n → up b p m (down b p k) ≡ k →
+    (up b p m x == k) ≡ (x == down b p k)
+shift_undone b p m x n k i j h e f =
+    same_test (up b p m x) k x (down b p k) (λ g. sym (comes_down b p m x n i j h e) ∙ ap (down b p) g) (λ g. ap (up b p m) g ∙ f)
 
 -- a number keeps all its digits at a width exactly where it is below 2 to the width
 pub fits_test : (w n : ℕ) → 0 < 2 ^ w → (n % 2 ^ w == n) ≡ nat_lt n (2 ^ w)

@@ -4,6 +4,7 @@ use Rattle.std.proofs.Common.{
   ◌<◌,
   ◌≤◌,
   ◌==◌,
+  ◌&&◌,
   ◌^◌,
   ◌%◌,
   ◌+◌,
@@ -27,39 +28,34 @@ use Rattle.std.proofs.Common.{
   subst,
   arith,
 }
-use Rattle.std.specs.Prelude.{nat_lt}
+use Rattle.std.specs.Prelude.{nat_lt, bit_and, bit_or}
 use Rattle.std.proofs.Math.Nat.{add_comm, mul_comm, mod-eq_of_lt, pow-le-pow_right, lt_of_lt_of_le}
-use Rattle.std.proofs.lemmas.Nat.{xor_comm}
-use Rattle.std.specs.Int.Bits.{bit_xor, xor_assoc, xor_self, xor_zero_r}
+use Rattle.std.proofs.lemmas.Nat.{xor_comm, or_comm, pow_pos}
 use Rattle.std.proofs.lemmas.Bool.Decides.{nat_tests, Decides-eqb}
 use Rattle.ygg_value.proofs.Results.{apply_to-IsWord, not_of-IsWord}
 use Rattle.ygg_value.specs.Number.{Number, IsWord}
 use Rattle.ygg_value.specs.Words.{word, apply_to, not_of, result_width, CanApply}
 use Rattle.ygg_value.specs.declared.operation.Op.{Op}
-use Rattle.ygg_value.specs.declared.operation.Op.TheVariants.{Add, Sub, Mul, Xor}
+use Rattle.ygg_value.specs.declared.operation.Op.TheVariants.{Add, Sub, Mul, Or, Xor, Shl, Shr}
 use Rattle.ygg_bank.proofs.Fitting.{constant_there}
-use Rattle.ygg_bank.proofs.Widths.{width_is, own_width, has_width, width_fits, constant_word}
+use Rattle.ygg_bank.proofs.Widths.{width_is, own_width, has_width, stands, width_fits, constant_word}
 use Rattle.ygg_bank.specs.Making.{known_in}
-use Rattle.ygg_bank.specs.Nodes.{width_at, widths_of, HasWidth, InOrder}
+use Rattle.ygg_bank.specs.Nodes.{width_at, widths_of, HasWidth, Stands, InOrder}
 use Rattle.ygg_bank.specs.Values.{Inputs, Values, Fits}
 use Rattle.ygg_bank.specs.declared.node.Id.{Id}
 use Rattle.ygg_bank.specs.declared.node.Node.{Node}
 use Rattle.ygg_bank.specs.declared.node.Node.TheVariants.{Const, Bin, Not, Resize}
-use Rattle.ygg_shape_words.proofs.Children.{bin_alike, not_wide, resize_stands}
-use Rattle.ygg_shape_words.proofs.Tests.{same_test, add_undone, sub_undone, sub_turned, mul_undone, not_undone}
-use Rattle.ygg_shape_words.specs.Forms.{ConstantFits, against, undo_bin, undo_first, undo_second, inverse_of, nearer}
+use Rattle.ygg_shape_words.proofs.Children.{bin_alike, bin_stands, not_wide, resize_stands, shift_wide}
+use Rattle.ygg_shape_words.proofs.Tests.{add_undone, sub_undone, sub_turned, mul_undone, not_undone, xor_undone, or_undone, up, down, shift_undone}
+use Rattle.ygg_shape_words.proofs.Masks.{may_cover, never_is}
+use Rattle.ygg_shape_words.specs.Digits.{may_have, may_be, Covers}
+use Rattle.ygg_shape_words.specs.declared.digits.TheConstants.{DIGIT_DEPTH}
+use Rattle.ygg_shape_words.specs.Forms.{ConstantFits, against, comes_back, undo_node, undo_bin, undo_first, undo_second, inverse_of, nearer}
 use Rattle.ygg_shape_words.specs.declared.forms.Form.{Form}
 use Rattle.ygg_shape_words.specs.declared.forms.Form.TheVariants as form
 
 below : (x k : Number) → IsWord x → x.width ≡ k.width → x.bits < 2 ^ k.width
 below x k h e = subst (λ w. x.bits < 2 ^ w) e h.fits
-
-xor_back : (a c : ℕ) → bit_xor (bit_xor a c) c ≡ a
-xor_back a c = xor_assoc a c c ∙ ap (bit_xor a) (xor_self c) ∙ xor_zero_r a
-
-xor_undone : (x c k : ℕ) → (bit_xor x c == k) ≡ (x == bit_xor k c)
-xor_undone x c k =
-    same_test (bit_xor x c) k x (bit_xor k c) (λ h. sym (xor_back x c) ∙ ap (λ z. bit_xor z c) h) (λ h. ap (λ z. bit_xor z c) h ∙ xor_back k c)
 
 -- how an operation on a word x, done by this function, is undone: its equality with k is the equality of x with the word that this one gives
 record Undoes (f back : Number → Number) (k : Number) : Type 0 where
@@ -182,6 +178,8 @@ constant_fits nodes a x y z Sub k (Some c) i e h f g =
     known_wide nodes k.width z c i (g k.width (own_operands nodes a x y Sub k.width i e h (λ x y d. d) (λ w. refl))) f
 constant_fits nodes a x y z Mul k (Some c) i e h f g =
     known_wide nodes k.width z c i (g k.width (own_operands nodes a x y Mul k.width i e h (λ x y d. d) (λ w. refl))) f
+constant_fits nodes a x y z Or k (Some c) i e h f g =
+    known_wide nodes k.width z c i (g k.width (own_operands nodes a x y Or k.width i e h (λ x y d. d) (λ w. refl))) f
 constant_fits nodes a x y z Xor k (Some c) i e h f g =
     known_wide nodes k.width z c i (g k.width (own_operands nodes a x y Xor k.width i e h (λ x y d. d) (λ w. refl))) f
 constant_fits nodes a x y z op k o i e h f g = tt
@@ -228,8 +226,38 @@ module _ (inputs : Inputs) (v : Values) (nodes : List Node) (f : Fits inputs v n
   product_is a x k c i true d g e h u = undone a x k g (λ z. apply_to Mul z i) (u d) e h
   product_is a x k c i false d g e h u = tt
 
+  -- a constant's digits that are put to a word are undone where the word has none of them
+  or_is : (a x : Id) (k c m : Number) (b : Bool) → (bit_and m.bits c.bits == 0) ≡ b → IsWord c → IsWord k → c.width ≡ k.width → Covers m (v x.0) →
+      HasWidth nodes x k.width → (v a.0).bits ≡ bit_or (v x.0).bits c.bits → IsAgainst a k (if b then form.Against x (apply_to Xor k c) else form.Plain)
+  or_is a x k c m true d q r e h g i = (
+    g,
+    apply_to-IsWord Xor k c r q (sym e),
+    ap (λ z. z == k.bits) i ∙ or_undone (v x.0).bits m.bits c.bits k.bits h.digits ((Decides-eqb (bit_and m.bits c.bits) 0).0 d),
+  )
+  or_is a x k c m false d q r e h g i = tt
+
+  -- a shift up is undone where it moves no digit out, and the constant has none of those that it moves in
+  shift_is : (a x : Id) (k c m : Number) (b d : Bool) → comes_back Shl Shr m c ≡ b → comes_back Shr Shl k c ≡ d → IsWord c → IsWord k → Covers m (v x.0) →
+      HasWidth nodes x k.width → v a.0 ≡ apply_to Shl (v x.0) c → IsAgainst a k (if b && d then form.Against x (apply_to Shr k c) else form.Plain)
+  shift_is a x k c m true true s u q r h g i =
+      let t = nat_lt c.bits k.width in
+      let p = 2 ^ c.bits in
+      let n = 2 ^ k.width in
+      let own : (v x.0).width ≡ k.width = f.widths x.0 k.width g in
+      let back : down t p (up t p n m.bits) ≡ m.bits =
+      ap (λ w. down (nat_lt c.bits w) p (up (nat_lt c.bits w) p (2 ^ w) m.bits)) (sym (h.width ∙ own))
+      ∙ (Decides-eqb (apply_to Shr (apply_to Shl m c) c).bits m.bits).0 s in (
+        g,
+        apply_to-IsWord Shr k c r q tt,
+        ap (λ (z : Number). z.bits == k.bits) i ∙ ap (λ w. up (nat_lt c.bits w) p (2 ^ w) (v x.0).bits == k.bits) own
+            ∙ shift_undone t p n (v x.0).bits m.bits k.bits (pow_pos c.bits) (pow_pos k.width) h.digits back
+            ((Decides-eqb (apply_to Shl (apply_to Shr k c) c).bits k.bits).0 u),
+      )
+  shift_is a x k c m true false s u q r h g i = tt
+  shift_is a x k c m false d s u q r h g i = tt
+
   first_is : (op : Op) (a x y : Id) (k c : Number) → slice_get nodes a.0 ≡ Some (Bin op x y) → HasWidth nodes a k.width → IsWord k →
-      known_in (slice_get nodes y.0) ≡ Some c → IsAgainst a k (undo_first op x k c)
+      known_in (slice_get nodes y.0) ≡ Some c → IsAgainst a k (undo_first nodes op x k c)
   first_is Add a x y k c e h r g =
       let p = own_operands nodes a x y Add k.width f.ordered e h (λ x y d. d) (λ w. refl) in
       undone a x k (λ z. apply_to Add z c) (λ z. apply_to Sub z c) (add_first c k (known_word y c g) r (known_wide nodes k.width y c f.ordered p.1 g))
@@ -249,10 +277,21 @@ module _ (inputs : Inputs) (v : Values) (nodes : List Node) (f : Fits inputs v n
       let p = own_operands nodes a x y Xor k.width f.ordered e h (λ x y d. d) (λ w. refl) in
       undone a x k (λ z. apply_to Xor z c) (λ z. apply_to Xor z c) (xor_first c k (known_word y c g) r (known_wide nodes k.width y c f.ordered p.1 g))
       (f.values a.0 (Bin Xor x y) e ∙ ap (apply_to Xor (v x.0)) (known_value y c g)) p.0
+  first_is Or a x y k c e h r g =
+      let p = own_operands nodes a x y Or k.width f.ordered e h (λ x y d. d) (λ w. refl) in
+      let m = may_have nodes x in
+      or_is a x k c m (bit_and m.bits c.bits == 0) refl (known_word y c g) r (known_wide nodes k.width y c f.ordered p.1 g)
+      (may_cover inputs v nodes f DIGIT_DEPTH x (bin_stands nodes a.0 Or x y f.ordered e).0) p.0
+      (ap (λ (z : Number). z.bits) (f.values a.0 (Bin Or x y) e ∙ ap (apply_to Or (v x.0)) (known_value y c g)))
+  first_is Shl a x y k c e h r g =
+      let m = may_have nodes x in
+      shift_is a x k c m (comes_back Shl Shr m c) (comes_back Shr Shl k c) refl refl (known_word y c g) r
+      (may_cover inputs v nodes f DIGIT_DEPTH x (bin_stands nodes a.0 Shl x y f.ordered e).0) (shift_wide nodes a.0 k.width x y f.ordered e h)
+      (f.values a.0 (Bin Shl x y) e ∙ ap (apply_to Shl (v x.0)) (known_value y c g))
   first_is op a x y k c e h r g = tt
 
   second_is : (op : Op) (a x y : Id) (k c : Number) → slice_get nodes a.0 ≡ Some (Bin op x y) → HasWidth nodes a k.width → IsWord k →
-      known_in (slice_get nodes x.0) ≡ Some c → IsAgainst a k (undo_second op y k c)
+      known_in (slice_get nodes x.0) ≡ Some c → IsAgainst a k (undo_second nodes op y k c)
   second_is Add a x y k c e h r g =
       let p = own_operands nodes a x y Add k.width f.ordered e h (λ x y d. d) (λ w. refl) in
       undone a y k (λ z. apply_to Add c z) (λ z. apply_to Sub z c) (add_second c k (known_word x c g) r (known_wide nodes k.width x c f.ordered p.0 g))
@@ -272,10 +311,17 @@ module _ (inputs : Inputs) (v : Values) (nodes : List Node) (f : Fits inputs v n
       let p = own_operands nodes a x y Xor k.width f.ordered e h (λ x y d. d) (λ w. refl) in
       undone a y k (λ z. apply_to Xor c z) (λ z. apply_to Xor z c) (xor_second c k (known_word x c g) r (known_wide nodes k.width x c f.ordered p.0 g))
       (f.values a.0 (Bin Xor x y) e ∙ ap (λ z. apply_to Xor z (v y.0)) (known_value x c g)) p.1
+  second_is Or a x y k c e h r g =
+      let p = own_operands nodes a x y Or k.width f.ordered e h (λ x y d. d) (λ w. refl) in
+      let m = may_have nodes y in
+      or_is a y k c m (bit_and m.bits c.bits == 0) refl (known_word x c g) r (known_wide nodes k.width x c f.ordered p.0 g)
+      (may_cover inputs v nodes f DIGIT_DEPTH y (bin_stands nodes a.0 Or x y f.ordered e).1) p.1
+      (ap (λ (z : Number). z.bits) (f.values a.0 (Bin Or x y) e ∙ ap (λ z. apply_to Or z (v y.0)) (known_value x c g))
+      ∙ or_comm c.bits (v y.0).bits)
   second_is op a x y k c e h r g = tt
 
   bin_is : (op : Op) (a x y : Id) (k : Number) (one two : Option Number) → slice_get nodes a.0 ≡ Some (Bin op x y) → HasWidth nodes a k.width → IsWord k →
-      known_in (slice_get nodes x.0) ≡ one → known_in (slice_get nodes y.0) ≡ two → IsAgainst a k (undo_bin op x y k one two)
+      known_in (slice_get nodes x.0) ≡ one → known_in (slice_get nodes y.0) ≡ two → IsAgainst a k (undo_bin nodes op x y k one two)
   bin_is op a x y k one (Some c) e h r d g = first_is op a x y k c e h r g
   bin_is op a x y k (Some c) None e h r d g = second_is op a x y k c e h r d
   bin_is op a x y k None None e h r d g = tt
@@ -303,13 +349,21 @@ module _ (inputs : Inputs) (v : Values) (nodes : List Node) (f : Fits inputs v n
   constants a k c true d e = ap (λ (z : Number). z.bits == k.bits) (f.values a.0 (Const c) e) ∙ d
   constants a k c false d e = ap (λ (z : Number). z.bits == k.bits) (f.values a.0 (Const c) e) ∙ d
 
-  -- how the equality of a node with a constant goes on is what it is
-  pub against_is : (a : Id) (k : Number) (n : Option Node) → slice_get nodes a.0 ≡ n → HasWidth nodes a k.width → IsWord k → IsAgainst a k (against nodes k n)
-  against_is a k (Some (Const c)) e h r = constants a k c (c.bits == k.bits) refl e
-  against_is a k (Some (Bin op x y)) e h r = bin_is op a x y k (known_in (slice_get nodes x.0)) (known_in (slice_get nodes y.0)) e h r refl refl
-  against_is a k (Some (Not x)) e h r =
+  node_is : (a : Id) (k : Number) (n : Option Node) → slice_get nodes a.0 ≡ n → HasWidth nodes a k.width → IsWord k → IsAgainst a k (undo_node nodes k n)
+  node_is a k (Some (Const c)) e h r = constants a k c (c.bits == k.bits) refl e
+  node_is a k (Some (Bin op x y)) e h r = bin_is op a x y k (known_in (slice_get nodes x.0)) (known_in (slice_get nodes y.0)) e h r refl refl
+  node_is a k (Some (Not x)) e h r =
       undone a x k not_of not_of (not_words k r) (f.values a.0 (Not x) e) (not_wide nodes a.0 k.width x f.ordered e h)
-  against_is a k (Some (Resize x w)) e h r =
+  node_is a k (Some (Resize x w)) e h r =
       let u = width_at (widths_of nodes) x in
       resize_is a x k u w (nat_lt w u) (nat_lt k.bits (2 ^ u)) refl refl e (has_width nodes x (resize_stands nodes a.0 w x f.ordered e)) r
-  against_is a k n e h r = tt
+  node_is a k n e h r = tt
+
+  may_case : (a : Id) (k : Number) (b : Bool) (g : Form) → may_be nodes a k ≡ b → Stands nodes a → IsAgainst a k g → IsAgainst a k (if b then g else form.Never)
+  may_case a k true g e s h = h
+  may_case a k false g e s h = never_is inputs v nodes f a k s e
+
+  -- how the equality of a term with a constant goes on is what it is
+  pub against_is : (a : Id) (k : Number) → HasWidth nodes a k.width → IsWord k → IsAgainst a k (against nodes a k)
+  against_is a k h r =
+      may_case a k (may_be nodes a k) (undo_node nodes k (slice_get nodes a.0)) refl (stands nodes a k.width h) (node_is a k (slice_get nodes a.0) refl h r)

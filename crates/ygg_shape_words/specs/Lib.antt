@@ -7,6 +7,7 @@ pub use Rattle.ygg_bank.proofs.Widths as ygg_bank_proofs_Widths
 pub use Rattle.ygg_bank.specs as ygg_bank
 pub use Rattle.ygg_rules.specs as ygg_rules
 pub mod Picking
+pub mod Digits
 pub mod Forms
 pub mod Same
 pub mod Sizing

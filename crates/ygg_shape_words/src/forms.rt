@@ -3,10 +3,12 @@
 ghost use Rattle.std.specs.Prelude.{◌≡◌, ◌^◌, nat_lt, Some, slice_get};
 ghost use Rattle.ygg_rules.specs.Views.{IsWidth};
 ghost use Rattle.ygg_bank.specs.Making.{known_in};
-ghost use Rattle.ygg_bank.specs.Nodes.{HasWidth, IsBank};
+ghost use Rattle.ygg_bank.specs.Nodes.{HasWidth, IsBank, Stands};
 ghost use Rattle.ygg_shape_words.specs.Forms.{ConstantFits, WordsAlike, against, against_known, form_of, inverse_of, nearer};
-ghost use Rattle.ygg_shape_words.specs.Forms.{undo_bin, undo_first, undo_product, undo_resize, undo_second};
+ghost use Rattle.ygg_shape_words.specs.Forms.{comes_back, undo_bin, undo_first, undo_node, undo_or, undo_product, undo_resize, undo_second, undo_shift};
+ghost use Rattle.ygg_value.specs.Words.{CanApply, apply_to};
 
+use crate::digits::{may_be, may_have};
 use crate::picking::known;
 use ygg_bank::{Bank, Id, Node};
 use ygg_value::{Op, Word, apply, not, resize};
@@ -125,17 +127,30 @@ fn against_known(bank: &Bank, one: Id, two: Id, first: Option<Word>, second: Opt
     ensures { result ≡ against_known bank.now one two first second }
 {
     match (first, second) {
-        (_, Some(word)) => against(bank, word, one),
-        (Some(word), None) => against(bank, word, two),
+        (_, Some(word)) => against(bank, one, word),
+        (Some(word), None) => against(bank, two, word),
         (None, None) => Form::Plain,
     }
 }
 
-/// How the equality of the node at a place with a constant goes on.
-fn against(bank: &Bank, word: Word, at: Id) -> Form
+/// How the equality of a term with a constant goes on.
+fn against(bank: &Bank, at: Id, word: Word) -> Form
     requires bank { IsBank bank.now }
     requires at { HasWidth bank.now at word.width }
-    ensures { result ≡ against bank.now word (slice_get bank.now at.0) }
+    ensures { result ≡ against bank.now at word }
+{
+    if may_be(bank, at, word) {
+        undo_node(bank, at, word)
+    } else {
+        Form::Never
+    }
+}
+
+/// How the equality of the node at a place, which may be this constant, with it goes on.
+fn undo_node(bank: &Bank, at: Id, word: Word) -> Form
+    requires bank { IsBank bank.now }
+    requires at { HasWidth bank.now at word.width }
+    ensures { result ≡ undo_node bank.now word (slice_get bank.now at.0) }
 {
     match bank.node(at) {
         Node::Const(other) => {
@@ -145,7 +160,7 @@ fn against(bank: &Bank, word: Word, at: Id) -> Form
                 Form::Never
             }
         }
-        Node::Bin { op, a, b } => undo_bin(op, a, b, word, known(bank, a), known(bank, b)),
+        Node::Bin { op, a, b } => undo_bin(bank, op, a, b, word, known(bank, a), known(bank, b)),
         Node::Not { a } => Form::Against {
             term: a,
             word: not(word),
@@ -156,22 +171,35 @@ fn against(bank: &Bank, word: Word, at: Id) -> Form
 }
 
 /// How the equality of an operation with a constant goes on, where these constants are known of its operands.
-fn undo_bin(op: Op, a: Id, b: Id, word: Word, one: Option<Word>, two: Option<Word>) -> Form
+fn undo_bin(
+    bank: &Bank,
+    op: Op,
+    a: Id,
+    b: Id,
+    word: Word,
+    one: Option<Word>,
+    two: Option<Word>,
+) -> Form
+    requires bank { IsBank bank.now }
+    requires a { Stands bank.now a }
+    requires b { Stands bank.now b }
     requires one { ConstantFits op word one }
     requires two { ConstantFits op word two }
-    ensures { result ≡ undo_bin op a b word one two }
+    ensures { result ≡ undo_bin bank.now op a b word one two }
 {
     match (one, two) {
-        (_, Some(constant)) => undo_first(op, a, word, constant),
-        (Some(constant), None) => undo_second(op, b, word, constant),
+        (_, Some(constant)) => undo_first(bank, op, a, word, constant),
+        (Some(constant), None) => undo_second(bank, op, b, word, constant),
         (None, None) => Form::Plain,
     }
 }
 
 /// How the equality of an operation on a term and a constant with a word goes on.
-fn undo_first(op: Op, term: Id, word: Word, constant: Word) -> Form
-    requires { ConstantFits op word (Some constant) }
-    ensures { result ≡ undo_first op term word constant }
+fn undo_first(bank: &Bank, op: Op, term: Id, word: Word, constant: Word) -> Form
+    requires bank { IsBank bank.now }
+    requires term { Stands bank.now term }
+    requires constant { ConstantFits op word (Some constant) }
+    ensures { result ≡ undo_first bank.now op term word constant }
 {
     match op {
         Op::Add => Form::Against {
@@ -183,18 +211,22 @@ fn undo_first(op: Op, term: Id, word: Word, constant: Word) -> Form
             word: apply(Op::Add, word, constant),
         },
         Op::Mul => undo_product(term, word, constant),
+        Op::Or => undo_or(term, word, constant, may_have(bank, term)),
         Op::Xor => Form::Against {
             term,
             word: apply(Op::Xor, word, constant),
         },
+        Op::Shl => undo_shift(term, word, constant, may_have(bank, term)),
         _ => Form::Plain,
     }
 }
 
 /// How the equality of an operation on a constant and a term with a word goes on.
-fn undo_second(op: Op, term: Id, word: Word, constant: Word) -> Form
-    requires { ConstantFits op word (Some constant) }
-    ensures { result ≡ undo_second op term word constant }
+fn undo_second(bank: &Bank, op: Op, term: Id, word: Word, constant: Word) -> Form
+    requires bank { IsBank bank.now }
+    requires term { Stands bank.now term }
+    requires constant { ConstantFits op word (Some constant) }
+    ensures { result ≡ undo_second bank.now op term word constant }
 {
     match op {
         Op::Add => Form::Against {
@@ -206,12 +238,53 @@ fn undo_second(op: Op, term: Id, word: Word, constant: Word) -> Form
             word: apply(Op::Sub, constant, word),
         },
         Op::Mul => undo_product(term, word, constant),
+        Op::Or => undo_or(term, word, constant, may_have(bank, term)),
         Op::Xor => Form::Against {
             term,
             word: apply(Op::Xor, word, constant),
         },
         _ => Form::Plain,
     }
+}
+
+/// How the equality of the digits of a term, which may have these, and of a constant together with a word goes on.
+/// Where the term has none of the constant's digits, they are taken away from the word.
+fn undo_or(term: Id, word: Word, constant: Word, may: Word) -> Form
+    requires { constant.width ≡ word.width }
+    ensures { result ≡ undo_or term word constant may }
+{
+    if may.bits & constant.bits == 0 {
+        Form::Against {
+            term,
+            word: apply(Op::Xor, word, constant),
+        }
+    } else {
+        Form::Plain
+    }
+}
+
+/// How the equality of a term, which may have these digits, moved up as far as the constant says, with a word goes on.
+/// Where no digit is moved out and the word has none that moves in, the word is moved down.
+fn undo_shift(term: Id, word: Word, constant: Word, may: Word) -> Form
+    ensures { result ≡ undo_shift term word constant may }
+{
+    if comes_back(Op::Shl, Op::Shr, may, constant) && comes_back(Op::Shr, Op::Shl, word, constant) {
+        Form::Against {
+            term,
+            word: apply(Op::Shr, word, constant),
+        }
+    } else {
+        Form::Plain
+    }
+}
+
+/// Whether a word's digits are what they were once they are moved as far as another word says, this way and back.
+fn comes_back(there: Op, back: Op, word: Word, by: Word) -> bool
+    requires there { CanApply there word by }
+    requires back { CanApply back (apply_to there word by) by }
+    ensures { result ≡ comes_back there back word by }
+{
+    apply(back, apply(there, word, by), by).bits == word.bits
 }
 
 /// How the equality of the product of a term and a constant with a word goes on: an odd constant has an inverse modulo 2 to its width.

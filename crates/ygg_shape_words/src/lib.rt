@@ -2,11 +2,13 @@
 #![tactic(auto)]
 
 pub mod comparing;
+pub mod digits;
 pub mod forms;
 pub mod picking;
 pub mod resizing;
 
 pub use comparing::{SPLIT_LIMIT, same};
+pub use digits::{DIGIT_DEPTH, may_be, may_have};
 pub use forms::fits;
 pub use picking::{known, pick};
 pub use resizing::resize;

@@ -5,7 +5,7 @@ use Rattle.std.proofs.Common.{◌≡◌, OnOk, IfOk, List, subst, Some, sym, ◌
 use Rattle.ygg_shape_words.specs.ygg_bank.Makes.{Out}
 use Rattle.ygg_shape_words.specs.ygg_bank.declared.node.Id.{Id}
 use Rattle.ygg_shape_cells.proofs.Handed.{selected_as, chosen_goes}
-use Rattle.ygg_shape_cells.proofs.selecting.select_by.Goals as goal
+use Rattle.ygg_shape_cells.proofs.selecting.select_by_number.Goals as goal
 
 pub choose-requires-clause-place : goal.choose-requires-clause-place
 choose-requires-clause-place g c = wider c.args.bank.now c.zeros.new.bank c.args.at c.width-width.result c.zeros.ensures.grows c.width-width.ensures.width
