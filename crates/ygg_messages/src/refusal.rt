@@ -2,7 +2,7 @@
 
 use crate::excerpt::excerpt;
 use crate::hint::hint;
-use crate::meaning::meaning;
+use crate::meanings::meaning;
 use crate::place::line_of;
 use crate::usage::{asks_help, call_of, no_command};
 use crate::words::word_at;

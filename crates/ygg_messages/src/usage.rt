@@ -32,16 +32,19 @@ pub fn call_of(command: &str) -> &'static str {
 
 /// The command that a word is nearest to, at most two slips away; no text where there is none.
 fn nearest(alloc: Global, word: &str) -> Result<&'static str, AllocError> {
-    let mut best = "";
+    let mut best = CALLS.len();
     let mut least = 3usize;
-    for (name, _) in &CALLS {
+    for (place, (name, _)) in CALLS.iter().enumerate() {
         let slips = osa_distance(alloc, word, name)?;
         if slips < least {
             least = slips;
-            best = *name;
+            best = place;
         }
     }
-    Ok(best)
+    match CALLS.get(best) {
+        Some((name, _)) => Ok(*name),
+        None => Ok(""),
+    }
 }
 
 /// How all commands are called.
