@@ -2,7 +2,7 @@
 
 use crate::layer_hint::{no_token, not_ascii, not_here};
 use crate::place::{line_before, line_of, parted};
-use crate::types::wanted_type;
+use crate::types::types_at;
 use std::alloc::{AllocError, Global};
 use ygg_base::Refusal;
 
@@ -77,7 +77,7 @@ pub fn hint(alloc: Global, text: &[u8], refusal: Refusal) -> Result<String, Allo
         1 => not_ascii(at),
         2 => no_token(at),
         3 => return not_here(alloc, before, at),
-        6 | 7 => return type_hint(alloc, before, at, refusal.number),
+        6 | 7 => return type_hint(alloc, text, refusal),
         31 => schedule_hint(line, refusal.line, is_last),
         41 => line_hint(line, is_last),
         43 => value_hint(line),
@@ -87,11 +87,10 @@ pub fn hint(alloc: Global, text: &[u8], refusal: Refusal) -> Result<String, Allo
 }
 
 /// What may help where a width or a type doesn't fit.
-fn type_hint(alloc: Global, before: &[u8], at: &[u8], number: u8) -> Result<String, AllocError> {
-    let usual = number_hint(number);
-    let wanted = wanted_type(alloc, before, at)?;
-    if wanted.is_empty() {
-        return format!(in alloc; "{usual}");
+fn type_hint(alloc: Global, text: &[u8], refusal: Refusal) -> Result<String, AllocError> {
+    let usual = number_hint(refusal.number);
+    match types_at(alloc, text, refusal) {
+        Some(types) => format!(in alloc; "{types}; {usual}"),
+        None => format!(in alloc; "{usual}"),
     }
-    format!(in alloc; "{wanted}; {usual}")
 }

@@ -1,8 +1,252 @@
-//! The types that a call wants, as they are written in the file.
+//! The types that don't fit where a width or a type is refused, as far as they are written in the file.
 
-use std::alloc::{AllocError, Global};
+use std::alloc::Global;
+use ygg_base::{Keyword, Mark, Refusal, Symbol, Token, Tokens};
+use ygg_lex::tokens;
 
-/// What is wanted of the argument that stands at a place, where it is one of a call on the disk; no text where that can't be told.
-pub fn wanted_type(alloc: Global, before: &[u8], at: &[u8]) -> Result<String, AllocError> {
-    format!(in alloc; "")
+/// The longest layer file.
+const MOST_BYTES: usize = 1_048_576;
+
+/// The tokens of a layer file.
+fn tokens_in(alloc: Global, text: &[u8]) -> Option<Tokens> {
+    if text.len() > MOST_BYTES {
+        return None;
+    }
+    tokens(alloc, text).ok()
+}
+
+/// Whether the token at a place is this keyword.
+fn is_keyword(all: &[Token], place: usize, wanted: Keyword) -> bool {
+    matches!(all.get(place), Some(Token { mark: Mark::Keyword(keyword), .. }) if *keyword == wanted)
+}
+
+/// Whether the token at a place is this symbol.
+fn is_symbol(all: &[Token], place: usize, wanted: Symbol) -> bool {
+    matches!(all.get(place), Some(Token { mark: Mark::Symbol(symbol), .. }) if *symbol == wanted)
+}
+
+/// The name that is the token at a place.
+fn name_at(all: &[Token], place: usize) -> Option<&[u8]> {
+    match all.get(place) {
+        Some(Token { mark: Mark::Name(name), .. }) => Some(name.as_slice()),
+        _ => None,
+    }
+}
+
+/// The number that is the token at a place.
+fn number_at(all: &[Token], place: usize) -> Option<u64> {
+    match all.get(place) {
+        Some(Token { mark: Mark::Num(number), .. }) => Some(*number),
+        _ => None,
+    }
+}
+
+/// The place among the tokens of the one that begins at a line and a column.
+fn place_of(all: &[Token], refusal: Refusal) -> Option<usize> {
+    all.iter()
+        .position(|token| token.line == refusal.line && token.column == refusal.column)
+}
+
+/// The place of a token before another one.
+fn before(place: usize, count: usize) -> Option<usize> {
+    place.checked_sub(count)
+}
+
+/// The type that is written from a place on: `word W`, `row of M`, or `table of N`, with all numbers that stand there.
+fn type_at(alloc: Global, all: &[Token], place: usize) -> Option<String> {
+    let first = number_at(all, place.saturating_add(1))?;
+    if is_keyword(all, place, Keyword::Word) {
+        return format!(in alloc; "word {first}").ok();
+    }
+    let second = number_at(all, place.saturating_add(3))?;
+    if is_keyword(all, place, Keyword::Row) {
+        return format!(in alloc; "row {first} of {second}").ok();
+    }
+    let third = number_at(all, place.saturating_add(5))?;
+    if is_keyword(all, place, Keyword::Table) {
+        return format!(in alloc; "table {first} of {second} of {third}").ok();
+    }
+    None
+}
+
+/// The type with which a name is declared last before a place, where one is written.
+fn declared(alloc: Global, all: &[Token], place: usize, name: &[u8]) -> Option<String> {
+    let mut found = None;
+    for (at, _) in all.iter().enumerate().take(place) {
+        if name_at(all, at) == Some(name) && is_symbol(all, at.saturating_add(1), Symbol::Colon) {
+            found = type_at(alloc, all, at.saturating_add(2));
+        }
+        // a name of `let` has a type that isn't written
+        if name_at(all, at) == Some(name) && is_symbol(all, at.saturating_add(1), Symbol::Assign) {
+            let is_let = before(at, 1).is_some_and(|at| is_keyword(all, at, Keyword::Let));
+            if is_let {
+                found = None;
+            }
+        }
+    }
+    found
+}
+
+/// Whether an expression ends before the token at a place.
+fn ends_at(all: &[Token], place: usize) -> bool {
+    is_symbol(all, place, Symbol::Comma)
+        || is_symbol(all, place, Symbol::RoundClose)
+        || is_symbol(all, place, Symbol::Semicolon)
+}
+
+/// The type of an expression that begins at a place, where it is a number or a name alone.
+fn given_at(alloc: Global, all: &[Token], place: usize) -> Option<String> {
+    if let Some(name) = name_at(all, place) {
+        return if ends_at(all, place.saturating_add(1)) {
+            declared(alloc, all, place, name)
+        } else {
+            None
+        };
+    }
+    let width = number_at(all, place.saturating_add(2))?;
+    number_at(all, place)?;
+    if ends_at(all, place.saturating_add(3)) {
+        format!(in alloc; "word {width}").ok()
+    } else {
+        None
+    }
+}
+
+/// What is called with the argument that begins at a place: the place of its name, and which of its arguments that is.
+fn call_round(all: &[Token], place: usize) -> Option<(usize, usize)> {
+    let mut depth = 0usize;
+    let mut argument = 0usize;
+    for at in (0..place).rev() {
+        let Some(Token { mark: Mark::Symbol(symbol), .. }) = all.get(at) else {
+            continue;
+        };
+        match symbol {
+            Symbol::RoundClose | Symbol::SquareClose => depth = depth.saturating_add(1),
+            Symbol::RoundOpen | Symbol::SquareOpen if depth > 0 => depth = depth.saturating_sub(1),
+            Symbol::RoundOpen => return Some((before(at, 1)?, argument)),
+            Symbol::Comma if depth == 0 => argument = argument.saturating_add(1),
+            Symbol::SquareOpen
+            | Symbol::Semicolon
+            | Symbol::BraceOpen
+            | Symbol::BraceClose => return None,
+            _ => {}
+        }
+    }
+    None
+}
+
+/// The place of the keyword `layer` that stands last before a place.
+fn layer_before(all: &[Token], place: usize) -> Option<usize> {
+    (0..place).rev().find(|at| is_keyword(all, *at, Keyword::Layer))
+}
+
+/// The place of a name behind a keyword, between two places.
+fn declaration(all: &[Token], from: usize, to: usize, keyword: Keyword, name: &[u8]) -> Option<usize> {
+    (from..to).find(|at| is_keyword(all, *at, keyword) && name_at(all, at.saturating_add(1)) == Some(name))
+}
+
+/// The type of a parameter of what is declared at a place: its name, the opening bracket, and the parameters follow there.
+fn parameter(alloc: Global, all: &[Token], place: usize, argument: usize) -> Option<String> {
+    let mut left = argument;
+    for at in place.saturating_add(2)..all.len() {
+        if is_symbol(all, at, Symbol::RoundClose) {
+            return None;
+        }
+        if is_symbol(all, at, Symbol::Comma) {
+            left = left.saturating_sub(1);
+        }
+        if left == 0 && is_symbol(all, at, Symbol::Colon) {
+            return type_at(alloc, all, at.saturating_add(1));
+        }
+    }
+    None
+}
+
+/// The type that a call on the disk wants.
+fn wanted_by_disk(alloc: Global, all: &[Token], name: &[u8], argument: usize) -> Option<String> {
+    if argument == 0 && (name == b"read".as_slice() || name == b"write".as_slice()) {
+        return format!(in alloc; "word 8, an address of the disk").ok();
+    }
+    // yggdrasil 1 ; disk sync N of M of W ;
+    let words = number_at(all, 7)?;
+    let width = number_at(all, 9)?;
+    if argument == 1 && name == b"write".as_slice() {
+        return format!(in alloc; "row {words} of {width}").ok();
+    }
+    None
+}
+
+/// The type that what is called wants of an argument.
+fn wanted(alloc: Global, all: &[Token], callee: usize, argument: usize) -> Option<String> {
+    let name = name_at(all, callee)?;
+    if !is_keyword(all, before(callee, 1)?, Keyword::Call) {
+        let def = declaration(all, 0, callee, Keyword::Def, name)?;
+        return parameter(alloc, all, def, argument);
+    }
+    let own = layer_before(all, callee)?;
+    match layer_before(all, own) {
+        Some(lower) => {
+            let operation = declaration(all, lower, own, Keyword::Op, name)?;
+            parameter(alloc, all, operation, argument)
+        }
+        None => wanted_by_disk(alloc, all, name, argument),
+    }
+}
+
+/// What is said of an argument at a place.
+fn of_argument(alloc: Global, all: &[Token], place: usize) -> Option<String> {
+    let (callee, argument) = call_round(all, place)?;
+    let wanted = wanted(alloc, all, callee, argument)?;
+    let name = std::str::from_utf8(name_at(all, callee)?).ok()?;
+    match given_at(alloc, all, place) {
+        Some(given) => format!(in alloc; "{name} wants {wanted} here, and this is {given}").ok(),
+        None => format!(in alloc; "{name} wants {wanted} here").ok(),
+    }
+}
+
+/// What is said of what a variable is set to, at a place.
+fn of_value(alloc: Global, all: &[Token], place: usize) -> Option<String> {
+    let target = before(place, 2)?;
+    let name = name_at(all, target)?;
+    if !is_symbol(all, before(place, 1)?, Symbol::Assign) {
+        return None;
+    }
+    let wanted = declared(alloc, all, target, name)?;
+    let name = std::str::from_utf8(name).ok()?;
+    match given_at(alloc, all, place) {
+        Some(given) => format!(in alloc; "{name} is {wanted}, and this is {given}").ok(),
+        None => format!(in alloc; "{name} is {wanted}").ok(),
+    }
+}
+
+/// What is said of an operator at a place, where a number or a name alone stands on either side.
+fn of_operator(alloc: Global, all: &[Token], place: usize) -> Option<String> {
+    let name = before(place, 1)?;
+    let left = if is_symbol(all, before(name, 1)?, Symbol::RoundOpen) {
+        declared(alloc, all, place, name_at(all, name)?)?
+    } else {
+        let number = before(place, 3)?;
+        if !is_symbol(all, before(number, 1)?, Symbol::RoundOpen) {
+            return None;
+        }
+        number_at(all, number)?;
+        let width = number_at(all, name)?;
+        format!(in alloc; "word {width}").ok()?
+    };
+    let right = given_at(alloc, all, place.saturating_add(1))?;
+    format!(in alloc; "on the left is {left}, on the right {right}").ok()
+}
+
+/// What is said of the types at the place of a refusal; nothing where they aren't written there.
+pub fn types_at(alloc: Global, text: &[u8], refusal: Refusal) -> Option<String> {
+    let tokens = tokens_in(alloc, text)?;
+    let all = tokens.items.as_slice();
+    let place = place_of(all, refusal)?;
+    if let Some(said) = of_value(alloc, all, place) {
+        return Some(said);
+    }
+    if let Some(said) = of_argument(alloc, all, place) {
+        return Some(said);
+    }
+    of_operator(alloc, all, place)
 }

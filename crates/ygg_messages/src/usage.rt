@@ -16,9 +16,15 @@ const CALLS: [(&str, &str); 13] = [
     ("solve", "ygg solve CNF [BUDGET]          solve clauses"),
     ("cnf", "ygg cnf FILE OBLIGATION         print the clauses of an obligation"),
     ("demo", "ygg demo N                      verify a made file of N operations"),
-    ("--help", "ygg --help                      all of it, with the lines printed and their numbers"),
+    ("--help", "ygg --help"),
     ("--version", "ygg --version"),
 ];
+
+/// As many of these are shown where no command is named.
+const OFTEN: usize = 8;
+
+/// What is said of the others.
+const OTHERS: &str = "  ygg --help                      all commands, what they print, and what each number means\n";
 
 /// How a command is called; no text where there is none of that name.
 pub fn call_of(command: &str) -> &'static str {
@@ -49,16 +55,13 @@ fn nearest(alloc: Global, word: &str) -> Result<&'static str, AllocError> {
 
 /// How all commands are called.
 fn usage(alloc: Global) -> Result<String, AllocError> {
-    let mut out = format!(in alloc; "")?;
-    let mut lead = "usage: ";
-    for (name, call) in &CALLS {
-        if *name != "--version" {
-            out.push_str(lead)?;
-            out.push_str(call)?;
-            out.push('\n')?;
-        }
-        lead = "       ";
+    let mut out = format!(in alloc; "usage:\n")?;
+    for (_, call) in CALLS.iter().take(OFTEN) {
+        out.push_str("  ")?;
+        out.push_str(call)?;
+        out.push('\n')?;
     }
+    out.push_str(OTHERS)?;
     Ok(out)
 }
 
@@ -80,9 +83,9 @@ pub fn no_command(alloc: Global, command: &str) -> Result<String, AllocError> {
         return format!(in alloc; "ygg: {command} takes other words\nusage: {call}\n");
     }
     let near = nearest(alloc, command)?;
-    let usage = usage(alloc)?;
     if near.is_empty() {
+        let usage = usage(alloc)?;
         return format!(in alloc; "ygg: \"{command}\" is no command\n{usage}");
     }
-    format!(in alloc; "ygg: \"{command}\" is no command; did you mean {near}?\n{usage}")
+    format!(in alloc; "ygg: \"{command}\" is no command; did you mean {near}?\n")
 }
