@@ -1,5 +1,6 @@
 //! A line of a file with a mark below it.
 
+use crate::place::word_of;
 use std::alloc::{AllocError, Global};
 
 /// So many bytes of a line are shown at most.
@@ -30,7 +31,7 @@ fn push_plain(out: &mut String, bytes: &[u8]) -> Result<(), AllocError> {
     Ok(())
 }
 
-/// A line of a file by its number, and below it a mark at a column, counted from 1. A long line is cut.
+/// A line of a file by its number, and below it a mark from a column on, counted from 1: as long as the word that begins there. A long line is cut.
 pub fn excerpt(alloc: Global, line: &[u8], number: u32, column: u32) -> Result<String, AllocError> {
     let place = column.saturating_sub(1) as usize;
     let start = left_out(place);
@@ -41,6 +42,10 @@ pub fn excerpt(alloc: Global, line: &[u8], number: u32, column: u32) -> Result<S
     for _ in 0..place.saturating_sub(start) {
         out.push(' ')?;
     }
-    out.push_str("^\n")?;
+    let marked = word_of(line.get(place..).unwrap_or(&[]));
+    for _ in 0..marked.len().max(1) {
+        out.push('^')?;
+    }
+    out.push('\n')?;
     Ok(out)
 }

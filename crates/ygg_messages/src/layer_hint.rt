@@ -117,7 +117,7 @@ pub fn not_here(alloc: Global, before: &[u8], at: &[u8]) -> Result<String, Alloc
     let (code, number) = last_code(before);
     let line = line_before(before).trim_ascii();
     if line.is_empty() && wants_semicolon(code) && !begins_with_one(at, &OPERATORS) {
-        return format!(in alloc; "expected `;` or what else ends it after line {number}");
+        return format!(in alloc; "expected `;` after line {number}");
     }
     let hint = token_hint(line, at);
     format!(in alloc; "{hint}")

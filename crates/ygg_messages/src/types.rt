@@ -69,22 +69,23 @@ fn type_at(alloc: Global, all: &[Token], place: usize) -> Option<String> {
     None
 }
 
-/// The type with which a name is declared last before a place, where one is written.
+/// Whether a name is declared at a place: a type follows it, or it follows `let`.
+fn is_declared(all: &[Token], place: usize, name: &[u8]) -> bool {
+    let is_let = before(place, 1).is_some_and(|at| is_keyword(all, at, Keyword::Let));
+    name_at(all, place) == Some(name)
+        && (is_let || is_symbol(all, place.saturating_add(1), Symbol::Colon))
+}
+
+/// The type of a name by what declares it last before a place, where that is written there: as its type, or as a call whose answer it is.
 fn declared(alloc: Global, all: &[Token], place: usize, name: &[u8]) -> Option<String> {
-    let mut found = None;
-    for (at, _) in all.iter().enumerate().take(place) {
-        if name_at(all, at) == Some(name) && is_symbol(all, at.saturating_add(1), Symbol::Colon) {
-            found = type_at(alloc, all, at.saturating_add(2));
-        }
-        // a name of `let` has a type that isn't written
-        if name_at(all, at) == Some(name) && is_symbol(all, at.saturating_add(1), Symbol::Assign) {
-            let is_let = before(at, 1).is_some_and(|at| is_keyword(all, at, Keyword::Let));
-            if is_let {
-                found = None;
-            }
-        }
+    let at = (0..place).rev().find(|at| is_declared(all, *at, name))?;
+    if is_symbol(all, at.saturating_add(1), Symbol::Colon) {
+        return type_at(alloc, all, at.saturating_add(2));
     }
-    found
+    if is_keyword(all, at.saturating_add(2), Keyword::Call) {
+        return answered(alloc, all, at.saturating_add(3));
+    }
+    None
 }
 
 /// Whether an expression ends before the token at a place.
@@ -102,6 +103,9 @@ fn given_at(alloc: Global, all: &[Token], place: usize) -> Option<String> {
         } else {
             None
         };
+    }
+    if is_keyword(all, place, Keyword::Row) {
+        return format!(in alloc; "a row").ok();
     }
     let width = number_at(all, place.saturating_add(2))?;
     number_at(all, place)?;
@@ -193,6 +197,53 @@ fn wanted(alloc: Global, all: &[Token], callee: usize, argument: usize) -> Optio
     }
 }
 
+/// The type of what a call answers, by the place of the name of what is called.
+fn answered(alloc: Global, all: &[Token], callee: usize) -> Option<String> {
+    let name = name_at(all, callee)?;
+    let own = layer_before(all, callee)?;
+    if let Some(lower) = layer_before(all, own) {
+        let operation = declaration(all, lower, own, Keyword::Op, name)?;
+        let arrow = (operation..own).find(|at| is_symbol(all, *at, Symbol::Arrow))?;
+        return type_at(alloc, all, arrow.saturating_add(1));
+    }
+    if name == b"read".as_slice() {
+        return wanted_by_disk(alloc, all, b"write", 1);
+    }
+    None
+}
+
+/// As many arguments are told of at most.
+const MOST_ARGUMENTS: usize = 16;
+
+/// What is said of the name of what is called with another number of arguments.
+fn of_count(alloc: Global, all: &[Token], place: usize) -> Option<String> {
+    let name = std::str::from_utf8(name_at(all, place)?).ok()?;
+    if !is_symbol(all, place.saturating_add(1), Symbol::RoundOpen) {
+        return None;
+    }
+    let mut out = format!(in alloc; "{name} takes").ok()?;
+    for argument in 0..MOST_ARGUMENTS {
+        if let Some(one) = wanted(alloc, all, place, argument) {
+            out.push_str(if argument == 0 { " " } else { " and " }).ok()?;
+            out.push_str(one.as_str()).ok()?;
+        }
+    }
+    Some(out)
+}
+
+/// What is said of an answer at a place behind `return`.
+fn of_answer(alloc: Global, all: &[Token], place: usize) -> Option<String> {
+    if !is_keyword(all, before(place, 1)?, Keyword::Return) {
+        return None;
+    }
+    let arrow = (0..place).rev().find(|at| is_symbol(all, *at, Symbol::Arrow))?;
+    let wanted = type_at(alloc, all, arrow.saturating_add(1))?;
+    match given_at(alloc, all, place) {
+        Some(given) => format!(in alloc; "the answer is {wanted}, and this is {given}").ok(),
+        None => format!(in alloc; "the answer is {wanted}").ok(),
+    }
+}
+
 /// What is said of an argument at a place.
 fn of_argument(alloc: Global, all: &[Token], place: usize) -> Option<String> {
     let (callee, argument) = call_round(all, place)?;
@@ -242,11 +293,9 @@ pub fn types_at(alloc: Global, text: &[u8], refusal: Refusal) -> Option<String> 
     let tokens = tokens_in(alloc, text)?;
     let all = tokens.items.as_slice();
     let place = place_of(all, refusal)?;
-    if let Some(said) = of_value(alloc, all, place) {
-        return Some(said);
-    }
-    if let Some(said) = of_argument(alloc, all, place) {
-        return Some(said);
-    }
-    of_operator(alloc, all, place)
+    let said = of_value(alloc, all, place);
+    let said = said.or(of_answer(alloc, all, place));
+    let said = said.or(of_count(alloc, all, place));
+    let said = said.or(of_operator(alloc, all, place));
+    said.or(of_argument(alloc, all, place))
 }
