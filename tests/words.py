@@ -41,12 +41,13 @@ def refused_files():
     yield PAIR.rstrip("}\n") + "\n", "3 45:1", ["the file ends too early"]
     yield line(26, "    return pick(i, y, z);"), "4 26:23", ["a name that means nothing here [4]", "state is seen in spec"]
     yield line(9, "  state x : word 8;"), "5 9:9", ["this name is taken already [5]"]
-    yield line(14, "    call write(1:4, row(a));"), "6 14:16", ["widths differ", "write wants word 8, an address of the disk here, and this is word 4"]
+    yield line(14, "    call write(1:4, row(a));"), "6 14:16", ["widths differ", "write wants word 8 (a disk address) here, and this is word 4"]
+    yield line(11, "    x = 300:8;"), "6 11:9", ["300 doesn't fit in 8 bits"]
     yield line(11, "    x = (a + 1:4);"), "6 11:12", ["on the left is word 8, on the right word 4"]
     yield line(14, "    call write(1:8, a);"), "7 14:21", ["types differ", "write wants row 1 of 8 here, and this is word 8", "row(v) a row of a word"]
     yield line(11, "    x = row(a);"), "7 11:9", ["x is word 8, and this is a row"]
     yield line(29, "    return r;"), "7 29:12", ["the answer is word 8, and this is row 1 of 8", "r[0:1] is a word of a row"]
-    yield line(14, "    call write(1:8);"), "7 14:10", ["write takes word 8, an address of the disk and row 1 of 8"]
+    yield line(14, "    call write(1:8);"), "7 14:10", ["write takes word 8 (a disk address) and row 1 of 8"]
     yield line(6, "disk async 500 of 1 of 8;"), "8 6:12", ["a number out of its range [8]", "a disk has 1 to 256 rows"]
 
 
@@ -139,7 +140,7 @@ def numbers_of(text, pattern):
 def tables(ygg, tried):
     """What differs between the numbers of the table in the code, of `--help` and of the cases here."""
     code = (TOP / "crates" / "ygg_messages" / "src" / "meanings.rt").read_text()
-    meant = numbers_of(code, r"(?m)^    \((\d+), \"")
+    meant = numbers_of(code, r"\(\s*(\d+),\s*\"")
     told = subprocess.run([ygg, "--help"], capture_output=True, text=True, timeout=60).stdout.split("columns from 1:\n")[1]
     helped = numbers_of(told, r"(?:^|\n| {2})\s*(\d+)  (?=\w)")
     yield "the numbers of --help", None if helped == meant else f"{helped}, wanted {meant}"
@@ -208,7 +209,8 @@ def images(folder):
     run = ["run", "file", "cert", "image", "script"]
     whole = (folder.path / "image").read_bytes()
     spare = whole[:-1] + b"\1"
-    for image, number, text in ((b"", 51, "isn't formatted to its end"), (whole + whole, 52, "of a disk of another size"), (spare, 53, "a bit set that no row has")):
+    kinds = (b"", 51, "isn't formatted to its end"), (whole + whole, 52, "of a disk of another size"), (spare, 53, "a bit set that no row has")
+    for image, number, text in kinds:
         (folder.path / "image").write_bytes(image)
         yield f"run on an image: {number}", differs(folder.asked(*run), 2, f"refused {number} 0:3\n", ['ygg: "image": ', text])
     (folder.path / "image").write_bytes(whole)

@@ -17,7 +17,10 @@ fn line_hint(line: &[u8], is_last: bool) -> &'static str {
     if line.is_empty() {
         return "there are no empty lines here, and the last line is `end`";
     }
-    if line.windows(2).any(|pair| pair == b"  ".as_slice()) || line.ends_with(b" ") || line.starts_with(b" ") {
+    if line.windows(2).any(|pair| pair == b"  ".as_slice())
+        || line.ends_with(b" ")
+        || line.starts_with(b" ")
+    {
         return "one blank stands between words, and none before or after them";
     }
     if is_last {
@@ -48,16 +51,20 @@ fn value_hint(line: &[u8]) -> &'static str {
 /// What may help by the number alone.
 fn number_hint(number: u8) -> &'static str {
     match number {
-        4 => "state is seen in spec, memory and arguments in impl, `low` in relate, always and settled alone",
+        4 =>
+            "state is seen in spec, memory and arguments in impl, `low` in relate, always and settled alone",
         5 => "a name means one thing in all that can see it, arguments and `let` too",
         7 => "r[0:1] is a word of a row, row(v) a row of a word, and (a == b) a bit",
-        6 => "resize(e, 8) makes a word 8 bits wide, and 1:8 is 1 in 8 bits",
-        8 => "a disk has 1 to 256 rows of 1 to 64 words of 1 to 64 bits, at most 4096 words; a file has at most 8 layers",
+        6 => "resize(e, 8) makes a word 8 bits wide, 1:8 is 1 in 8 bits, and (a == b) has 1 bit",
+        8 =>
+            "a disk has 1 to 256 rows of 1 to 64 words of 1 to 64 bits, at most 4096 words; a file has at most 8 layers",
         9 => "smaller tables, fewer rounds of `for`, or a layer in between",
         10 => "each `choose`, and each fall that the specification may take, doubles the cases",
-        21 => "ygg certify FILE > CERT makes one; the words stand in the order FILE CERT IMAGE SCRIPT",
+        21 =>
+            "ygg certify FILE > CERT makes one; the words stand in the order FILE CERT IMAGE SCRIPT",
         22 | 24 => "was the layer file changed, or certify cut off? then certify it again",
-        32 | 33 => "a schedule is of the file that it was printed for; was that changed? then verify it again",
+        32 | 33 =>
+            "a schedule is of the file that it was printed for; was that changed? then verify it again",
         34 => "was the file cut off? it ends with the line `end`",
         42 => "operations are named as in the file, and background steps LAYER.NAME",
         44 => "ygg play without this line shows the calls",

@@ -69,9 +69,7 @@ fn ends_with_bare_number(line: &[u8]) -> bool {
         .rev()
         .take_while(|byte| byte.is_ascii_digit())
         .count();
-    let rest = line
-        .get(..line.len().saturating_sub(digits))
-        .unwrap_or(&[]);
+    let rest = line.get(..line.len().saturating_sub(digits)).unwrap_or(&[]);
     let is_part = rest
         .last()
         .is_some_and(|byte| is_of_word(*byte) || *byte == b':');

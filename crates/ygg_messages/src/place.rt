@@ -36,10 +36,7 @@ pub fn line_of(text: &[u8], line: u32) -> &[u8] {
 
 /// What stands in a line before a place, of a text that ends there.
 pub fn line_before(before: &[u8]) -> &[u8] {
-    before
-        .rsplit(|byte| *byte == b'\n')
-        .next()
-        .unwrap_or(&[])
+    before.rsplit(|byte| *byte == b'\n').next().unwrap_or(&[])
 }
 
 /// A line of a layer file without its comment and the blanks round it.

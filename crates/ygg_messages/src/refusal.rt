@@ -38,15 +38,20 @@ pub fn file_place(words: &[Text], refusal: Refusal) -> usize {
 fn no_number(alloc: Global, words: &[Text], word: &str) -> Result<String, AllocError> {
     let command = word_at(words, 0);
     if command == "demo" {
-        return format!(in alloc; "ygg: demo takes a number of operations from 1 to 64; \"{word}\" is none\n");
+        return format!(in alloc;
+            "ygg: demo takes a number of operations from 1 to 64; \"{word}\" is none\n"
+        );
     }
-    format!(in alloc; "ygg: the second word is a budget, a number from 1 to 10000000; \"{word}\" is none\n")
+    format!(in alloc;
+        "ygg: the second word is a budget, a number from 1 to 10000000; \"{word}\" is none\n"
+    )
 }
 
 /// What more is said of a word that is refused.
 fn word_hint(number: u8) -> &'static str {
     match number {
-        11 => "a layer file, a schedule and a script have at most 1048576 bytes, a certificate and clauses 67108864",
+        11 =>
+            "a layer file, a schedule and a script have at most 1048576 bytes, a certificate and clauses 67108864",
         51 => "ygg format FILE IMAGE formats it",
         52 => "it was formatted for another layer file, or cut off",
         53 => "something else than ygg changed it, or it is damaged",

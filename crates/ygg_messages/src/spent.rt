@@ -32,7 +32,9 @@ fn named(alloc: Global, words: &[Text], line: &str, spends: u64) -> Result<Strin
     } else {
         format!(in alloc; " (and {others} more)")?
     };
-    format!(in alloc; "ygg: gave up on {name}{more} after {count} learned clauses; nothing is known about it. Try: ygg verify {file} 10000000, {TRY}\n")
+    format!(in alloc;
+        "ygg: gave up on {name}{more} after {count} learned clauses; nothing is known about it. Try: ygg verify {file} 10000000, {TRY}\n"
+    )
 }
 
 /// What is said of a command whose budget was spent: by the last of its lines `spent ..`, of which there were so many.
@@ -49,7 +51,9 @@ pub fn spent_message(
     let budget = budget_of(words);
     if command == "solve" {
         let file = word_at(words, 1);
-        return format!(in alloc; "ygg: gave up after {budget} learned clauses. Try: ygg solve {file} 10000000\n");
+        return format!(in alloc;
+            "ygg: gave up after {budget} learned clauses. Try: ygg solve {file} 10000000\n"
+        );
     }
     format!(in alloc; "ygg: gave up after {budget} learned clauses\n")
 }
@@ -62,5 +66,7 @@ pub fn long_certificate(alloc: Global, bytes: u64) -> Result<String, AllocError>
     if bytes <= MOST_BYTES {
         return format!(in alloc; "");
     }
-    format!(in alloc; "ygg: this certificate has {bytes} bytes; check and run take at most {MOST_BYTES}. Try: fewer rows, a layer in between, a stronger relate\n")
+    format!(in alloc;
+        "ygg: this certificate has {bytes} bytes; check and run take at most {MOST_BYTES}. Try: fewer rows, a layer in between, a stronger relate\n"
+    )
 }

@@ -1,14 +1,13 @@
 //! What a person is told when a command has ended.
 
-use crate::fault::{device_fault, library_fault, output_fault};
+use crate::fault::{call_fault, device_fault, output_fault};
 use crate::heard::Heard;
 use crate::refusal::{file_place, refusal_in, refusal_message};
 use crate::spent::{long_certificate, spent_message};
 use crate::words::word_at;
 use std::alloc::{AllocError, Global};
-use std::fs;
 use std::io::Write;
-use std::str;
+use std::{fs, str};
 use ygg_base::{Fetch, Library, Status, Text};
 use ygg_outside::{FileDevice, FileLibrary, OutSink};
 
@@ -16,7 +15,11 @@ use ygg_outside::{FileDevice, FileLibrary, OutSink};
 const MOST_BYTES: u64 = 67_108_864;
 
 /// What stands under a name, where that is a regular file, which can be read twice.
-fn read_again(rt: &HostRuntime, name: Option<&Text>, library: &mut FileLibrary<'_>) -> Option<Text> {
+fn read_again(
+    rt: &HostRuntime,
+    name: Option<&Text>,
+    library: &mut FileLibrary<'_>,
+) -> Option<Text> {
     let name = name?;
     let path = str::from_utf8(name.as_slice()).ok()?;
     if !fs::metadata(rt, path).ok()?.is_file() {
@@ -44,7 +47,12 @@ fn refused(
     } else {
         read_again(rt, words.get(file_place(words, refusal)), library)
     };
-    refusal_message(alloc, words, refusal, text.as_ref().map(|text| text.as_slice()))
+    refusal_message(
+        alloc,
+        words,
+        refusal,
+        text.as_ref().map(|text| text.as_slice()),
+    )
 }
 
 /// The place among the words of the name of the image that a command is on.
@@ -66,7 +74,7 @@ fn failed<W: Write>(
             Some(name) => str::from_utf8(name.as_slice()).unwrap_or(""),
             None => "",
         };
-        out.push_str(library_fault(alloc, name, failure)?.as_str())?;
+        out.push_str(call_fault(alloc, name, failure)?.as_str())?;
     }
     if let Some(failure) = device.failed() {
         let name = word_at(words, image_place(words));

@@ -28,7 +28,12 @@ fn is_symbol(all: &[Token], place: usize, wanted: Symbol) -> bool {
 /// The name that is the token at a place.
 fn name_at(all: &[Token], place: usize) -> Option<&[u8]> {
     match all.get(place) {
-        Some(Token { mark: Mark::Name(name), .. }) => Some(name.as_slice()),
+        Some(
+            Token {
+                mark: Mark::Name(name),
+                ..
+            },
+        ) => Some(name.as_slice()),
         _ => None,
     }
 }
@@ -36,15 +41,19 @@ fn name_at(all: &[Token], place: usize) -> Option<&[u8]> {
 /// The number that is the token at a place.
 fn number_at(all: &[Token], place: usize) -> Option<u64> {
     match all.get(place) {
-        Some(Token { mark: Mark::Num(number), .. }) => Some(*number),
+        Some(
+            Token {
+                mark: Mark::Num(number),
+                ..
+            },
+        ) => Some(*number),
         _ => None,
     }
 }
 
 /// The place among the tokens of the one that begins at a line and a column.
 fn place_of(all: &[Token], refusal: Refusal) -> Option<usize> {
-    all.iter()
-        .position(|token| token.line == refusal.line && token.column == refusal.column)
+    all.iter().position(|token| token.line == refusal.line && token.column == refusal.column)
 }
 
 /// The place of a token before another one.
@@ -121,7 +130,13 @@ fn call_round(all: &[Token], place: usize) -> Option<(usize, usize)> {
     let mut depth = 0usize;
     let mut argument = 0usize;
     for at in (0..place).rev() {
-        let Some(Token { mark: Mark::Symbol(symbol), .. }) = all.get(at) else {
+        let Some(
+            Token {
+                mark: Mark::Symbol(symbol),
+                ..
+            },
+        ) = all.get(at)
+        else {
             continue;
         };
         match symbol {
@@ -129,10 +144,8 @@ fn call_round(all: &[Token], place: usize) -> Option<(usize, usize)> {
             Symbol::RoundOpen | Symbol::SquareOpen if depth > 0 => depth = depth.saturating_sub(1),
             Symbol::RoundOpen => return Some((before(at, 1)?, argument)),
             Symbol::Comma if depth == 0 => argument = argument.saturating_add(1),
-            Symbol::SquareOpen
-            | Symbol::Semicolon
-            | Symbol::BraceOpen
-            | Symbol::BraceClose => return None,
+            Symbol::SquareOpen | Symbol::Semicolon | Symbol::BraceOpen | Symbol::BraceClose =>
+                return None,
             _ => {}
         }
     }
@@ -141,12 +154,21 @@ fn call_round(all: &[Token], place: usize) -> Option<(usize, usize)> {
 
 /// The place of the keyword `layer` that stands last before a place.
 fn layer_before(all: &[Token], place: usize) -> Option<usize> {
-    (0..place).rev().find(|at| is_keyword(all, *at, Keyword::Layer))
+    (0..place)
+        .rev()
+        .find(|at| is_keyword(all, *at, Keyword::Layer))
 }
 
 /// The place of a name behind a keyword, between two places.
-fn declaration(all: &[Token], from: usize, to: usize, keyword: Keyword, name: &[u8]) -> Option<usize> {
-    (from..to).find(|at| is_keyword(all, *at, keyword) && name_at(all, at.saturating_add(1)) == Some(name))
+fn declaration(
+    all: &[Token],
+    from: usize,
+    to: usize,
+    keyword: Keyword,
+    name: &[u8],
+) -> Option<usize> {
+    (from..to).find(|at| is_keyword(all, *at, keyword)
+        && name_at(all, at.saturating_add(1)) == Some(name))
 }
 
 /// The type of a parameter of what is declared at a place: its name, the opening bracket, and the parameters follow there.
@@ -169,7 +191,7 @@ fn parameter(alloc: Global, all: &[Token], place: usize, argument: usize) -> Opt
 /// The type that a call on the disk wants.
 fn wanted_by_disk(alloc: Global, all: &[Token], name: &[u8], argument: usize) -> Option<String> {
     if argument == 0 && (name == b"read".as_slice() || name == b"write".as_slice()) {
-        return format!(in alloc; "word 8, an address of the disk").ok();
+        return format!(in alloc; "word 8 (a disk address)").ok();
     }
     // yggdrasil 1 ; disk sync N of M of W ;
     let words = number_at(all, 7)?;
@@ -215,6 +237,26 @@ fn answered(alloc: Global, all: &[Token], callee: usize) -> Option<String> {
 /// As many arguments are told of at most.
 const MOST_ARGUMENTS: usize = 16;
 
+/// What is said of a type that is wanted, and of the one that is given, where it is known. Where they are the same something else is wrong, and nothing is
+/// said.
+fn compared(alloc: Global, said: &str, wanted: &str, given: Option<String>) -> Option<String> {
+    match given {
+        Some(given) if given.as_str() == wanted => None,
+        Some(given) => format!(in alloc; "{said}, and this is {given}").ok(),
+        None => format!(in alloc; "{said}").ok(),
+    }
+}
+
+/// What is said of a number at a place that is too great for its width.
+fn of_number(alloc: Global, all: &[Token], place: usize) -> Option<String> {
+    let number = number_at(all, place)?;
+    let width = number_at(all, place.saturating_add(2))?;
+    if width < 64 && number.checked_shr(width as u32).unwrap_or(0) > 0 {
+        return format!(in alloc; "{number} doesn't fit in {width} bits").ok();
+    }
+    None
+}
+
 /// What is said of the name of what is called with another number of arguments.
 fn of_count(alloc: Global, all: &[Token], place: usize) -> Option<String> {
     let name = std::str::from_utf8(name_at(all, place)?).ok()?;
@@ -224,7 +266,8 @@ fn of_count(alloc: Global, all: &[Token], place: usize) -> Option<String> {
     let mut out = format!(in alloc; "{name} takes").ok()?;
     for argument in 0..MOST_ARGUMENTS {
         if let Some(one) = wanted(alloc, all, place, argument) {
-            out.push_str(if argument == 0 { " " } else { " and " }).ok()?;
+            out.push_str(if argument == 0 { " " } else { " and " })
+                .ok()?;
             out.push_str(one.as_str()).ok()?;
         }
     }
@@ -236,12 +279,17 @@ fn of_answer(alloc: Global, all: &[Token], place: usize) -> Option<String> {
     if !is_keyword(all, before(place, 1)?, Keyword::Return) {
         return None;
     }
-    let arrow = (0..place).rev().find(|at| is_symbol(all, *at, Symbol::Arrow))?;
+    let arrow = (0..place)
+        .rev()
+        .find(|at| is_symbol(all, *at, Symbol::Arrow))?;
     let wanted = type_at(alloc, all, arrow.saturating_add(1))?;
-    match given_at(alloc, all, place) {
-        Some(given) => format!(in alloc; "the answer is {wanted}, and this is {given}").ok(),
-        None => format!(in alloc; "the answer is {wanted}").ok(),
-    }
+    let said = format!(in alloc; "the answer is {wanted}").ok()?;
+    compared(
+        alloc,
+        said.as_str(),
+        wanted.as_str(),
+        given_at(alloc, all, place),
+    )
 }
 
 /// What is said of an argument at a place.
@@ -249,10 +297,13 @@ fn of_argument(alloc: Global, all: &[Token], place: usize) -> Option<String> {
     let (callee, argument) = call_round(all, place)?;
     let wanted = wanted(alloc, all, callee, argument)?;
     let name = std::str::from_utf8(name_at(all, callee)?).ok()?;
-    match given_at(alloc, all, place) {
-        Some(given) => format!(in alloc; "{name} wants {wanted} here, and this is {given}").ok(),
-        None => format!(in alloc; "{name} wants {wanted} here").ok(),
-    }
+    let said = format!(in alloc; "{name} wants {wanted} here").ok()?;
+    compared(
+        alloc,
+        said.as_str(),
+        wanted.as_str(),
+        given_at(alloc, all, place),
+    )
 }
 
 /// What is said of what a variable is set to, at a place.
@@ -264,10 +315,13 @@ fn of_value(alloc: Global, all: &[Token], place: usize) -> Option<String> {
     }
     let wanted = declared(alloc, all, target, name)?;
     let name = std::str::from_utf8(name).ok()?;
-    match given_at(alloc, all, place) {
-        Some(given) => format!(in alloc; "{name} is {wanted}, and this is {given}").ok(),
-        None => format!(in alloc; "{name} is {wanted}").ok(),
-    }
+    let said = format!(in alloc; "{name} is {wanted}").ok()?;
+    compared(
+        alloc,
+        said.as_str(),
+        wanted.as_str(),
+        given_at(alloc, all, place),
+    )
 }
 
 /// What is said of an operator at a place, where a number or a name alone stands on either side.
@@ -285,6 +339,9 @@ fn of_operator(alloc: Global, all: &[Token], place: usize) -> Option<String> {
         format!(in alloc; "word {width}").ok()?
     };
     let right = given_at(alloc, all, place.saturating_add(1))?;
+    if left.as_str() == right.as_str() {
+        return None;
+    }
     format!(in alloc; "on the left is {left}, on the right {right}").ok()
 }
 
@@ -293,7 +350,8 @@ pub fn types_at(alloc: Global, text: &[u8], refusal: Refusal) -> Option<String> 
     let tokens = tokens_in(alloc, text)?;
     let all = tokens.items.as_slice();
     let place = place_of(all, refusal)?;
-    let said = of_value(alloc, all, place);
+    let said = of_number(alloc, all, place);
+    let said = said.or(of_value(alloc, all, place));
     let said = said.or(of_answer(alloc, all, place));
     let said = said.or(of_count(alloc, all, place));
     let said = said.or(of_operator(alloc, all, place));

@@ -5,17 +5,44 @@ use strsim::osa_distance;
 
 /// How each command is called.
 const CALLS: [(&str, &str); 13] = [
-    ("verify", "ygg verify FILE [BUDGET]        does FILE survive power failure?"),
-    ("replay", "ygg replay FILE SCHEDULE        does this schedule show that it doesn't?"),
-    ("play", "ygg play FILE SCRIPT            run it on a disk in memory"),
-    ("certify", "ygg certify FILE [BUDGET]       print a certificate of a verified file"),
-    ("check", "ygg check FILE CERT             check a certificate"),
-    ("format", "ygg format FILE IMAGE           make an image of its disk"),
+    (
+        "verify",
+        "ygg verify FILE [BUDGET]        does FILE survive power failure?",
+    ),
+    (
+        "replay",
+        "ygg replay FILE SCHEDULE        does this schedule show that it doesn't?",
+    ),
+    (
+        "play",
+        "ygg play FILE SCRIPT            run it on a disk in memory",
+    ),
+    (
+        "certify",
+        "ygg certify FILE [BUDGET]       print a certificate of a verified file",
+    ),
+    (
+        "check",
+        "ygg check FILE CERT             check a certificate",
+    ),
+    (
+        "format",
+        "ygg format FILE IMAGE           make an image of its disk",
+    ),
     ("run", "ygg run FILE CERT IMAGE SCRIPT  run it on the image"),
-    ("print", "ygg print FILE                  print FILE in its canonical text"),
+    (
+        "print",
+        "ygg print FILE                  print FILE in its canonical text",
+    ),
     ("solve", "ygg solve CNF [BUDGET]          solve clauses"),
-    ("cnf", "ygg cnf FILE OBLIGATION         print the clauses of an obligation"),
-    ("demo", "ygg demo N                      verify a made file of N operations"),
+    (
+        "cnf",
+        "ygg cnf FILE OBLIGATION         print the clauses of an obligation",
+    ),
+    (
+        "demo",
+        "ygg demo N                      verify a made file of N operations",
+    ),
     ("--help", "ygg --help"),
     ("--version", "ygg --version"),
 ];
@@ -24,7 +51,8 @@ const CALLS: [(&str, &str); 13] = [
 const OFTEN: usize = 8;
 
 /// What is said of the others.
-const OTHERS: &str = "  ygg --help                      all commands, what they print, and what each number means\n";
+const OTHERS: &str =
+    "  ygg --help                      all commands, what they print, and what each number means\n";
 
 /// How a command is called; no text where there is none of that name.
 pub fn call_of(command: &str) -> &'static str {
