@@ -109,8 +109,8 @@ def folders(ygg, paths, kind=Folder):
 
 
 def unformatted(folder):
-    """What is wrong of `format`, or None: it makes the image, also in the place of another one."""
-    for before in (None, b"another file that is longer than the image" * 1000):
+    """What is wrong of `format`, or None: it makes the image, also in the place of another one, and of what is left of one."""
+    for before in (None, MARK + b"another image that is longer" * 1000, bytes(20)):
         if before is not None:
             folder.image.write_bytes(before)
         found = *folder.asked("format", "file", "image"), folder.image.read_bytes()

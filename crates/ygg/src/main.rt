@@ -8,6 +8,7 @@ use std::env;
 use std::io::ErrorKind;
 use std::process::ExitCode;
 use ygg_base::{NoMemory, Status, Text, status_number};
+use ygg_messages::{Heard, tell};
 use ygg_outside::{FileDevice, FileLibrary, OutSink};
 use ygg_rules::{
     Book, Rule, RuleBook, RuleKind, add_zero, and_ones, and_zero, eq_self, fold, or_zero, pick_same,
@@ -39,22 +40,24 @@ fn words_of(rt: &HostRuntime) -> Result<Vec<Text>, NoMemory> {
 }
 
 /// Runs the command that the words name, over the system's files, images in files and standard output, under the book of all seven rules, in the order of
-/// their table.
+/// their table; and tells on standard error what a person may ask of how it ended.
 fn run_under(rt: &HostRuntime, words: &[Text], rules: &RuleBook) -> Status
     requires { ⟦<RuleBook as Book>⟧.kinds rules.now
         ≡ kind.Fold ∷ kind.AndOnes ∷ kind.AndZero ∷ kind.OrZero ∷ kind.AddZero ∷ kind.EqSelf ∷ kind.PickSame ∷ [] }
 {
     let mut library = FileLibrary::new(rt);
     let mut device = FileDevice::new(rt);
-    let mut sink = OutSink::new(rt.stdout());
-    ygg(
+    let mut sink = Heard::new(rt.alloc(), OutSink::new(rt.stdout()));
+    let status = ygg(
         rt.alloc(),
         words,
         rules,
         &mut library,
         &mut device,
         &mut sink,
-    )
+    );
+    tell(rt, words, status, &mut library, &device, &sink);
+    status
 }
 
 /// The kinds of the seven rules, in the order of their table.

@@ -12,7 +12,7 @@ abbrev pub IsContentsWithin : ℕ → Contents → Type 0
 IsContentsWithin limit (Text text) = length text ≤ limit
 IsContentsWithin limit Absent = Unit {0}
 IsContentsWithin limit TooLarge = Unit {0}
-IsContentsWithin limit Failed = Unit {0}
+IsContentsWithin limit (Failed failure) = Unit {0}
 IsContentsWithin limit Memory = Unit {0}
 
 -- a file that may give so many bytes still, which aren't told

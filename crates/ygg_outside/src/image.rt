@@ -2,12 +2,12 @@
 
 ghost use Rattle.std.specs.Prelude.{◌≡◌, ℕ, ◌*◌, ◌<◌, ◌≤◌, List, Option, length};
 ghost use Rattle.ygg_base.specs.Outside.{Rose};
+ghost use Rattle.ygg_base.specs.declared.outside.Moved.TheVariants as moved;
 ghost use Rattle.ygg_outside.specs.Images.{attachment_at};
 
-use crate::output::write_all;
-use std::fs::{File, OpenOptions};
-use std::io::{ErrorKind, Read, Seek, SeekFrom};
-use std::str;
+use crate::failure::{Call, Cause, Failure};
+use crate::opening::{Found, go_to, make_image, open_image, read_whole, write_whole};
+use std::fs::File;
 use ygg_base::{Attach, Device, Made, Moved, Text, blocks_in};
 
 /// The files of the system, by their paths, as images.
@@ -16,6 +16,7 @@ pub struct FileDevice<'a> {
     rt: &'a HostRuntime,
     faults: u64,
     attached: Option<Attached>,
+    failed: Option<Failure>,
 }
 
 /// A file that is attached, by its name, as so many blocks of so many bytes.
@@ -34,99 +35,76 @@ impl<'a> FileDevice<'a> {
             rt,
             faults: 0,
             attached: None,
+            failed: None,
         }
     }
 
-    /// Counts a fault.
-    fn fault(&mut self)
+    /// The call that failed last, if one did.
+    pub fn failed(&self) -> Option<Failure> {
+        self.failed
+    }
+
+    /// Counts a fault, and keeps what failed.
+    fn fault(&mut self, failure: Failure)
         ensures rose { Rose self.old.faults self.new.faults }
         ensures later { self.old.faults ≤ self.new.faults }
         ensures still { self.new.attached ≡ self.old.attached }
     {
         self.faults = self.faults.saturating_add(1);
+        self.failed = Some(failure);
     }
-}
 
-/// What comes of a path.
-enum Found {
-    File(File, u64),
-    Absent,
-    Failed,
-}
-
-/// Opens a file to be read and written, and says how many bytes it has. A path that leads to nothing is absent, and so is one that isn't UTF-8; one that can't
-/// be opened, as a file without permission, and one that is no regular file, as a folder, is a failure.
-fn open_image(rt: &HostRuntime, name: &[u8]) -> Found {
-    let Ok(path) = str::from_utf8(name) else {
-        return Found::Absent;
-    };
-    match OpenOptions::new().read(true).write(true).open(rt, path) {
-        Ok(file) => measured(file),
-        Err(error) => {
-            if error.kind() == ErrorKind::NotFound {
-                Found::Absent
-            } else {
-                Found::Failed
+    /// What a call on the attached image answers by how it went. A failure is counted and kept.
+    fn moved(&mut self, went: Result<(), Failure>) -> Moved
+        ensures cause { result ≡ moved.Failed → Rose self.old.faults self.new.faults }
+        ensures later { self.old.faults ≤ self.new.faults }
+        ensures still { self.new.attached ≡ self.old.attached }
+    {
+        match went {
+            Ok(()) => Moved::Done,
+            Err(failure) => {
+                self.fault(failure);
+                Moved::Failed
             }
         }
     }
 }
 
-/// A regular file, with its number of bytes.
-fn measured(file: File) -> Found {
-    match file.metadata() {
-        Ok(metadata) if metadata.is_file() => Found::File(file, metadata.len()),
-        _ => Found::Failed,
+/// The failure of a call without an attached image.
+const UNATTACHED: Failure = Failure {
+    call: Call::Open,
+    cause: Cause::NoFile,
+};
+
+/// Where a block of the file begins.
+fn start_of(attached: &Attached, block: u32) -> u64 {
+    block as u64 * attached.size as u64
+}
+
+/// Reads a block of the file.
+fn read_block(attached: &mut Attached, block: u32, into: &mut [u8]) -> Result<(), Failure>
+    ensures { attachment_at attached.new ≡ attachment_at attached.old }
+{
+    let start = start_of(attached, block);
+    go_to(&mut attached.file, start, Call::Read)?;
+    read_whole(&mut attached.file, into)
+}
+
+/// Writes a block of the file.
+fn write_block(attached: &mut Attached, block: u32, from: &[u8]) -> Result<(), Failure>
+    ensures { attachment_at attached.new ≡ attachment_at attached.old }
+{
+    let start = start_of(attached, block);
+    go_to(&mut attached.file, start, Call::Write)?;
+    write_whole(&mut attached.file, from)
+}
+
+/// Makes all that was written to the file stay.
+fn sync(attached: &Attached) -> Result<(), Failure> {
+    match attached.file.sync_all() {
+        Ok(()) => Ok(()),
+        Err(error) => Err(Failure::system(Call::Flush, error)),
     }
-}
-
-/// Makes a file of so many bytes, all zeros, in the place of the one at the path.
-fn make_image(rt: &HostRuntime, name: &[u8], bytes: u64) -> Option<File> {
-    let path = str::from_utf8(name).ok()?;
-    let file = OpenOptions::new()
-        .read(true)
-        .write(true)
-        .create(true)
-        .truncate(true)
-        .open(rt, path)
-        .ok()?;
-    file.set_len(bytes).ok()?;
-    Some(file)
-}
-
-/// Fills the slice, and says whether all of it was given. A read that gives nothing is an error.
-fn read_whole<R: Read>(reader: &mut R, into: &mut [u8]) -> bool {
-    let mut done = 0usize;
-    while done < into.len() {
-        match reader.read(&mut into[done..]) {
-            Ok(0) => return false,
-            Ok(count) => done += count,
-            Err(_) => return false,
-        }
-    }
-    true
-}
-
-/// Goes to a block of the file, and says whether that went well.
-fn go_to(attached: &mut Attached, block: u32) -> bool
-    ensures { attachment_at attached.new ≡ attachment_at attached.old }
-{
-    let start = block as u64 * attached.size as u64;
-    attached.file.seek(SeekFrom::Start(start)).is_ok()
-}
-
-/// Reads a block of the file, and says whether all of it was given.
-fn read_block(attached: &mut Attached, block: u32, into: &mut [u8]) -> bool
-    ensures { attachment_at attached.new ≡ attachment_at attached.old }
-{
-    go_to(attached, block) && read_whole(&mut attached.file, into)
-}
-
-/// Writes a block of the file, and says whether all of it was taken.
-fn write_block(attached: &mut Attached, block: u32, from: &[u8]) -> bool
-    ensures { attachment_at attached.new ≡ attachment_at attached.old }
-{
-    go_to(attached, block) && write_all(&mut attached.file, from)
 }
 
 impl<'a> Device for FileDevice<'a> {
@@ -156,8 +134,8 @@ impl<'a> Device for FileDevice<'a> {
                 Attach::Attached { bytes }
             }
             Found::Absent => Attach::Absent,
-            Found::Failed => {
-                self.fault();
+            Found::Failed(failure) => {
+                self.fault(failure);
                 Attach::Failed
             }
         }
@@ -169,7 +147,7 @@ impl<'a> Device for FileDevice<'a> {
             return Made::Memory;
         };
         match make_image(self.rt, name.as_slice(), count as u64 * size as u64) {
-            Some(file) => {
+            Ok(file) => {
                 self.attached = Some(Attached {
                     file,
                     name: copy,
@@ -178,8 +156,8 @@ impl<'a> Device for FileDevice<'a> {
                 });
                 Made::Done
             }
-            None => {
-                self.fault();
+            Err(failure) => {
+                self.fault(failure);
                 Made::Failed
             }
         }
@@ -188,36 +166,24 @@ impl<'a> Device for FileDevice<'a> {
     fn read(&mut self, block: u32, into: &mut [u8]) -> Moved {
         let read = match &mut self.attached {
             Some(attached) => read_block(attached, block, into),
-            None => false,
+            None => Err(UNATTACHED),
         };
-        if read {
-            return Moved::Done;
-        }
-        self.fault();
-        Moved::Failed
+        self.moved(read)
     }
 
     fn write(&mut self, block: u32, from: &[u8]) -> Moved {
         let written = match &mut self.attached {
             Some(attached) => write_block(attached, block, from),
-            None => false,
+            None => Err(UNATTACHED),
         };
-        if written {
-            return Moved::Done;
-        }
-        self.fault();
-        Moved::Failed
+        self.moved(written)
     }
 
     fn flush(&mut self) -> Moved {
         let synced = match &self.attached {
-            Some(attached) => attached.file.sync_all().is_ok(),
-            None => false,
+            Some(attached) => sync(attached),
+            None => Err(UNATTACHED),
         };
-        if synced {
-            return Moved::Done;
-        }
-        self.fault();
-        Moved::Failed
+        self.moved(synced)
     }
 }

@@ -2,10 +2,13 @@
 //! what files hold or what was written.
 #![tactic(auto)]
 
+mod failure;
 mod image;
 mod library;
+mod opening;
 mod output;
 
+pub use failure::{Call, Cause, Failure};
 pub use image::FileDevice;
 pub use library::FileLibrary;
 pub use output::OutSink;

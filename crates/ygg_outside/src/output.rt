@@ -2,6 +2,7 @@
 
 ghost use Rattle.std.specs.Prelude.{◌≡◌, ℕ, ◌≤◌, List, Option};
 
+use crate::failure::Cause;
 use std::io::Write;
 use ygg_base::{Moved, Sink};
 
@@ -10,12 +11,17 @@ use ygg_base::{Moved, Sink};
 pub struct OutSink<W> {
     out: W,
     faults: u64,
+    failed: Option<Cause>,
 }
 
 impl<W: Write> OutSink<W> {
     /// A sink over the writer.
     pub fn new(out: W) -> OutSink<W> {
-        OutSink { out, faults: 0 }
+        OutSink {
+            out,
+            faults: 0,
+            failed: None,
+        }
     }
 
     /// The writer.
@@ -24,19 +30,27 @@ impl<W: Write> OutSink<W> {
     {
         &self.out
     }
+
+    /// Why a call failed last, if one did.
+    pub fn failed(&self) -> Option<Cause> {
+        self.failed
+    }
 }
 
-/// Writes all the bytes, and says whether all were taken. A write that takes nothing is an error.
-pub(crate) fn write_all<W: Write>(out: &mut W, bytes: &[u8]) -> bool {
+/// Writes all the bytes. A write that takes nothing is an error.
+pub(crate) fn write_all<W: Write>(out: &mut W, bytes: &[u8]) -> Result<(), Cause> {
     let mut done = 0usize;
     while done < bytes.len() {
         match out.write(&bytes[done..]) {
-            Ok(0) => return false,
+            Ok(0) => return Err(Cause::Short),
             Ok(count) => done += count,
-            Err(_) => return false,
+            Err(error) => return Err(Cause::System(error)),
         }
     }
-    out.flush().is_ok()
+    match out.flush() {
+        Ok(()) => Ok(()),
+        Err(error) => Err(Cause::System(error)),
+    }
 }
 
 impl<W: Write> Sink for OutSink<W> {
@@ -47,10 +61,13 @@ impl<W: Write> Sink for OutSink<W> {
     ghost faults = { λ s. s.faults };
 
     fn put(&mut self, bytes: &[u8]) -> Moved {
-        if write_all(&mut self.out, bytes) {
-            return Moved::Done;
+        match write_all(&mut self.out, bytes) {
+            Ok(()) => Moved::Done,
+            Err(cause) => {
+                self.faults = self.faults.saturating_add(1);
+                self.failed = Some(cause);
+                Moved::Failed
+            }
         }
-        self.faults = self.faults.saturating_add(1);
-        Moved::Failed
     }
 }

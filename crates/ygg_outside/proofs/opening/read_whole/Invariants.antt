@@ -1,5 +1,5 @@
 use Rattle.std.proofs.Common.{◌≤◌, ◌-◌, length}
-use Rattle.ygg_outside.proofs.image.read_whole.Given as goal
+use Rattle.ygg_outside.proofs.opening.read_whole.Given as goal
 
 abbrev pub invariant-loop-done : goal.invariant-loop-done
 invariant-loop-done g l = l.done ≤ length l.into

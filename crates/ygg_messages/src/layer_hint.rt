@@ -1,0 +1,122 @@
+//! What may be meant where a layer file is refused, by what stands round the place: mostly habits from other languages.
+
+use crate::place::{is_of_word, last_code, line_before, word_of};
+use std::alloc::{AllocError, Global};
+
+/// What may help where a byte isn't ASCII.
+pub fn not_ascii(at: &[u8]) -> &'static str {
+    if at.starts_with(b"\xEF\xBB\xBF") {
+        return "this is a byte order mark: save the file without one";
+    }
+    if at.starts_with(b"\xFF\xFE") || at.starts_with(b"\xFE\xFF") {
+        return "the file is UTF-16: save it as plain ASCII";
+    }
+    "an accent, a dash or a quotation mark from a page: comments too are plain ASCII"
+}
+
+/// What may help where no token begins.
+pub fn no_token(at: &[u8]) -> &'static str {
+    match at {
+        [b'/', ..] | [b'%', ..] => "a comment begins with # and ends with its line",
+        [b'!', ..] => "`!=` compares, and `~` is not",
+        [b'_', ..] => "a name begins with a small letter",
+        [b'"', ..] | [b'\'', ..] => "there is no text between quotation marks in a layer file",
+        [first, ..] if first.is_ascii_uppercase() => {
+            "names are small letters, digits and _: State is no name, and state a keyword"
+        }
+        [first, ..] if first.is_ascii_digit() => {
+            "a number has no leading zeros and is below 2^64"
+        }
+        _ => "",
+    }
+}
+
+/// The operators, those before others that they begin with.
+const OPERATORS: [&[u8]; 17] = [
+    b"==", b"!=", b"<=", b">=", b"<<", b">>", b"=>", b"<", b">", b"+", b"-", b"*", b"&", b"|",
+    b"^", b"/", b"%",
+];
+
+/// The keywords that begin a part of a layer.
+const PARTS: [&[u8]; 12] = [
+    b"state", b"start", b"memory", b"format", b"op", b"crash", b"tick", b"recover", b"relate",
+    b"always", b"settled", b"maybe",
+];
+
+/// Whether the text begins with one of these.
+fn begins_with_one(at: &[u8], all: &[&[u8]]) -> bool {
+    all.iter().any(|one| at.starts_with(one))
+}
+
+/// What may help at an operator that no file goes on with.
+fn operator_hint(line: &[u8], at: &[u8]) -> &'static str {
+    if at.starts_with(b"&&") || (at.starts_with(b"&") && line.ends_with(b"&")) {
+        return "`&` is and: ((a == b) & (c == d))";
+    }
+    if at.starts_with(b"||") || (at.starts_with(b"|") && line.ends_with(b"|")) {
+        return "`|` is or: ((a == b) | (c == d))";
+    }
+    if at.starts_with(b"++") || at.starts_with(b"+=") || at.starts_with(b"-=") {
+        return "a variable is set with `=`: x = (x + 1:8);";
+    }
+    "each operator has brackets of its own: (a == b), ((a + b) + c)"
+}
+
+/// Whether a line ends with a number that has no width.
+fn ends_with_bare_number(line: &[u8]) -> bool {
+    let digits = line
+        .iter()
+        .rev()
+        .take_while(|byte| byte.is_ascii_digit())
+        .count();
+    let rest = line.get(..line.len().saturating_sub(digits)).unwrap_or(&[]);
+    let is_part = rest
+        .last()
+        .is_some_and(|byte| is_of_word(*byte) || *byte == b':');
+    digits > 0 && !is_part
+}
+
+/// What may help at a token that no file goes on with, by the code before it in its line.
+fn token_hint(line: &[u8], at: &[u8]) -> &'static str {
+    if begins_with_one(at, &OPERATORS) {
+        return operator_hint(line, at);
+    }
+    if at.starts_with(b"=") {
+        return "`==` compares: (a == b); `=` sets a variable, as a statement";
+    }
+    if word_of(at) == b"if".as_slice() && line.ends_with(b"else") {
+        return "there is no `else if`: else { if (a == b) { .. } }";
+    }
+    if at.starts_with(b"x") && line.ends_with(b"0") {
+        return "numbers are decimal: 16:8 and not 0x10";
+    }
+    if ends_with_bare_number(line) {
+        return "a number has a width: 1:8 is 1 in 8 bits";
+    }
+    if PARTS.iter().any(|part| word_of(at) == *part) {
+        return "a layer's parts stand in this order: state, start, memory, format, op, crash, tick, recover, relate, always, settled, maybe";
+    }
+    if at.is_empty() {
+        return "the file ends too early: each { wants its }, and each layer a relate";
+    }
+    ""
+}
+
+/// Whether code that ends so wants a semicolon before what begins in a later line.
+fn wants_semicolon(code: &[u8]) -> bool {
+    match code.last() {
+        Some(last) => is_of_word(*last) || *last == b')' || *last == b']',
+        None => false,
+    }
+}
+
+/// What may help where no file goes on with a token.
+pub fn not_here(alloc: Global, before: &[u8], at: &[u8]) -> Result<String, AllocError> {
+    let (code, number) = last_code(before);
+    let line = line_before(before).trim_ascii();
+    if line.is_empty() && wants_semicolon(code) && !begins_with_one(at, &OPERATORS) {
+        return format!(in alloc; "expected `;` after line {number}");
+    }
+    let hint = token_hint(line, at);
+    format!(in alloc; "{hint}")
+}

@@ -1,0 +1,247 @@
+"""What stands on standard error, and what `format` and `run` leave alone.
+
+Each number of a refusal has a case here, by which words it is made and what a person is told; so have habits from other languages, words that are no command,
+files that can't be read or written, and budgets that are spent. The numbers of the table in the code, of `ygg --help` and of these cases are the same."""
+import fcntl
+import os
+import pathlib
+import re
+import resource
+import signal
+import subprocess
+import tempfile
+
+TOP = pathlib.Path(__file__).resolve().parent.parent
+PAIR = (TOP / "examples" / "pair.ygg").read_text()
+FAULT = (4, "fault device\n")
+
+
+def line(number, text, of=None):
+    """A text with another line in the place of one."""
+    lines = (of or PAIR).split("\n")
+    lines[number - 1] = text
+    return "\n".join(lines)
+
+
+def refused_files():
+    """Texts of layer files, each with its refusal and what is told."""
+    yield "\ufeff" + PAIR, "1 1:1", ["file:1:1: a byte that isn't ASCII [1]", "byte order mark"]
+    yield line(1, "# naïve"), "1 1:5", ["comments too are plain ASCII"]
+    yield line(8, "  State x : word 8;"), "2 8:3", ["no token begins so [2]", "small letters"]
+    yield line(11, "    x = a; // note"), "2 11:12", ["a comment begins with #"]
+    yield line(11, "    x = 08:8;"), "2 11:9", ["no leading zeros"]
+    yield line(6, "disk async 5 of 1 of 8"), "3 7:1", ["no valid file goes on with this [3]", "expected `;` after line 6", "7 | layer pair {", "| ^^^^^\n"]
+    yield line(33, "    if c[0:1] == 1:8 {"), "3 33:15", ["each operator has brackets of its own: (a == b)"]
+    yield line(33, "    if (c[0:1] = 1:8) {"), "3 33:16", ["`==` compares"]
+    yield line(33, "    if ((c[0:1] == 1:8) && (c[0:1] == 1:8)) {"), "3 33:26", ["`&` is and"]
+    yield line(41, "    } else if (c[0:1] == 1:8) {\n    }"), "3 41:12", ["there is no `else if`"]
+    yield line(11, "    x = 1;"), "3 11:10", ["a number has a width: 1:8"]
+    yield line(11, "    x = 0x10;"), "3 11:10", ["numbers are decimal"]
+    yield line(9, "  memory m : word 8;\n  start {\n  }"), "3 10:3", ["a layer's parts stand in this order: state, start, memory"]
+    yield PAIR.rstrip("}\n") + "\n", "3 45:1", ["the file ends too early"]
+    yield line(26, "    return pick(i, y, z);"), "4 26:23", ["a name that means nothing here [4]", "state is seen in spec"]
+    yield line(9, "  state x : word 8;"), "5 9:9", ["this name is taken already [5]"]
+    yield line(14, "    call write(1:4, row(a));"), "6 14:16", ["widths differ", "write wants word 8 (a disk address) here, and this is word 4"]
+    yield line(11, "    x = 300:8;"), "6 11:9", ["300 doesn't fit in 8 bits"]
+    yield line(11, "    x = (a + 1:4);"), "6 11:12", ["on the left is word 8, on the right word 4"]
+    yield line(14, "    call write(1:8, a);"), "7 14:21", ["types differ", "write wants row 1 of 8 here, and this is word 8", "row(v) a row of a word"]
+    yield line(11, "    x = row(a);"), "7 11:9", ["x is word 8, and this is a row"]
+    yield line(29, "    return r;"), "7 29:12", ["the answer is word 8, and this is row 1 of 8", "r[0:1] is a word of a row"]
+    yield line(14, "    call write(1:8);"), "7 14:10", ["write takes word 8 (a disk address) and row 1 of 8"]
+    yield line(6, "disk async 500 of 1 of 8;"), "8 6:12", ["a number out of its range [8]", "a disk has 1 to 256 rows"]
+
+
+def refused_layers():
+    """The same of limits, in small files."""
+    head = "yggdrasil 1;\ndisk sync 1 of 1 of 1;\nlayer c {\nstate s : word 1;\n"
+    yield head + "relate all(i:12 below 4096, all(j:4 below 7, 1:1));\n}\n", "9 5:8", ["too long with calls and loops written out"]
+    yield head + "op go() spec { for i:4 below 9 { let b = choose; s = b; } } on crash { } impl { }\nrelate 1:1;\n}\n", "10 5:4", ["more than 8 choices [10]"]
+
+
+def texts():
+    """Cases of texts that are refused: the words, the files, the refusal, and what is told."""
+    for text, refusal, told in (*refused_files(), *refused_layers()):
+        yield ["verify", "file"], {"file": text}, refusal, told
+    script = lambda text: {"file": PAIR, "script": text}
+    play = ["play", "file", "script"]
+    yield play, script("ygg-script 1\r\nend\r\n"), "41 1:1", ["script:1:1:", "a carriage return"]
+    yield play, script("ygg-script 1\nend"), "41 2:1", ["the last line too ends with a line feed"]
+    yield play, script("ygg-script 1\ncall  get 0\nend\n"), "41 2:1", ["one blank stands between words"]
+    yield play, script("ygg-script 1\n# why\nend\n"), "41 2:1", ["there are no comments here"]
+    yield play, script("ygg-script 1\ncall took 0\nend\n"), "42 2:1", ["the topmost layer has no such operation"]
+    yield play, script("ygg-script 1\ncall put FF 01\nend\n"), "43 2:1", ["small letters: ff and not FF"]
+    yield play, script("ygg-script 1\ncall put 0x01 01\nend\n"), "43 2:1", ["no 0x"]
+    yield play, script("ygg-script 1\ncall get 0\nfail before 7\nend\n"), "44 3:1", ["fewer disk calls", "ygg play without this line"]
+    replay = ["replay", "file", "schedule"]
+    found = lambda text: {"file": PAIR, "schedule": text}
+    first = "ygg-schedule 1\nobligation pair.init\n"
+    yield replay, found("holds pair.init\n" + first + "end\n"), "31 1:1", ["schedule:1:1:", "sed -n '/^ygg-schedule/,$p'"]
+    yield replay, found("ygg-schedule 1\r\n"), "31 1:1", ["a carriage return"]
+    yield replay, found("ygg-schedule 1\nobligation pair.get\n"), "32 2:1", ["a schedule of this file"]
+    yield replay, found("ygg-schedule 1\nobligation pair.call.get\nstate x 0\u007a\n"), "33 3:1", ["hasn't the shape"]
+    yield replay, found(first), "34 3:1", ["the schedule ends too early"]
+    check = ["check", "file", "cert"]
+    held = lambda text: {"file": PAIR, "cert": text}
+    yield check, held(PAIR), "21 1:1", ["cert:1:1: this is no certificate", "ygg certify FILE > CERT"]
+    yield check, held("ygg-cert 1\no other.init 4\n"), "22 2:1", ["isn't one of this file", "was the layer file changed"]
+    yield check, held("ygg-cert 1\n"), "24 2:1", ["ends too early"]
+    yield ["solve", "cnf"], {"cnf": "1 0\n"}, "61 1:1", ["cnf:1:1: no header of clauses"]
+    yield ["solve", "cnf"], {"cnf": "p cnf 1 1\n2 0\n"}, "62 2:1", ["no such number"]
+    yield ["solve", "cnf"], {"cnf": "p cnf 1 1\n1 0 1 0\n"}, "63 2:5", ["more clauses than the header says"]
+
+
+def words():
+    """Cases of words that are refused."""
+    files = {"file": PAIR, "other": PAIR}
+    for help in ([], ["help"], ["-h"]):
+        yield help, files, "71 0:0", ["usage:\n", "ygg verify FILE [BUDGET]", "ygg run FILE CERT IMAGE SCRIPT", "ygg --help"]
+    yield ["-V"], files, "71 0:0", ["did you mean --version?"]
+    yield ["verfy", "file"], files, "71 0:0", ['"verfy" is no command; did you mean verify?']
+    yield ["nonsense"], files, "71 0:0", ['"nonsense" is no command', "usage:\n"]
+    yield ["replay", "file"], files, "71 0:0", ["replay takes other words", "ygg replay FILE SCHEDULE"]
+    yield ["verify", "--help"], files, "73 0:1", ["usage: ygg verify FILE [BUDGET]"]
+    yield ["verify", "nope.ygg"], files, "73 0:1", ['ygg: "nope.ygg": no such file']
+    yield ["verify", "file", "other"], files, "72 0:2", ["the second word is a budget, a number from 1 to 10000000", '"other" is none']
+    yield ["demo", "65"], files, "72 0:1", ["from 1 to 64"]
+    yield ["cnf", "file", "cut.put"], files, "74 0:2", ["no obligation of this name", "ygg verify FILE 1 lists the names"]
+    yield ["verify", "file"], {"file": " " * 1048577}, "11 0:1", ['"file": the file is too large', "1048576"]
+
+
+class Folder:
+    """A folder with files, in which ./ygg is run."""
+
+    def __init__(self, ygg, path, files):
+        self.ygg, self.path = ygg, pathlib.Path(path)
+        for name, text in files.items():
+            (self.path / name).write_bytes(text.encode("utf-8") if isinstance(text, str) else text)
+
+    def start(self, *words, before=None):
+        return subprocess.Popen([self.ygg, *words], cwd=self.path, stdin=subprocess.DEVNULL, stdout=subprocess.PIPE, stderr=subprocess.PIPE, preexec_fn=before)
+
+    def asked(self, *words, before=None):
+        """The status, standard output, and standard error of a command."""
+        with self.start(*words, before=before) as child:
+            out, error = child.communicate(timeout=60)
+            return child.returncode, out.decode(), error.decode()
+
+
+def differs(found, status, printed, told):
+    """What differs, or None: what is printed begins so, and all these are told."""
+    if found[0] != status or not found[1].startswith(printed):
+        return f"{found[:2]}, wanted {status}, {printed!r}"
+    missing = [text for text in told if text not in found[2]]
+    return f"standard error is {found[2]!r}, without {missing}" if missing or bool(found[2]) != bool(told) else None
+
+
+def numbers_of(text, pattern):
+    return sorted(int(number) for number in re.findall(pattern, text))
+
+
+def tables(ygg, tried):
+    """What differs between the numbers of the table in the code, of `--help` and of the cases here."""
+    code = (TOP / "crates" / "ygg_messages" / "src" / "meanings.rt").read_text()
+    meant = numbers_of(code, r"\(\s*(\d+),\s*\"")
+    told = subprocess.run([ygg, "--help"], capture_output=True, text=True, timeout=60).stdout.split("columns from 1:\n")[1]
+    helped = numbers_of(told, r"(?:^|\n| {2})\s*(\d+)  (?=\w)")
+    yield "the numbers of --help", None if helped == meant else f"{helped}, wanted {meant}"
+    yield "the numbers tried", None if sorted(tried) == meant else f"{sorted(tried)}, wanted {meant}"
+
+
+def refusals(ygg):
+    """Cases of refusals, each by its words, and what is wrong of it, or None."""
+    tried = {51, 52, 53}
+    for command, files, refusal, told in (*texts(), *words()):
+        tried.add(int(refusal.split()[0]))
+        with tempfile.TemporaryDirectory() as path:
+            found = Folder(ygg, path, files).asked(*command)
+        yield f"{' '.join(command)}: {refusal}, {told[0]}", differs(found, 2, f"refused {refusal}\n", told)
+    yield from tables(ygg, tried)
+
+
+def unmade(folder, name):
+    """What is told of `format` to a name under which something stands that isn't an image."""
+    path = folder.path / name
+    before = path.read_bytes() if path.is_file() else None
+    return folder.asked("format", "file", name), before, path.read_bytes() if path.is_file() else None
+
+
+def formats(folder):
+    """`format` over what isn't an image leaves it as it is; over an image it makes another one."""
+    (folder.path / "folder").mkdir()
+    (folder.path / "loose").symlink_to("nowhere")
+    (folder.path / "to_file").symlink_to("other")
+    (folder.path / "disk").write_bytes(bytes(100000))
+    for name, text in (("file", "exists and is no image"), ("other", "ygg -f format"), ("to_file", "is no image"), ("disk", "is no image"),
+                       ("folder", "cannot be opened: Is a directory"), ("loose", "a link that leads to nothing"), ("/dev/null", "no regular file")):
+        found, before, after = unmade(folder, name)
+        yield f"format over {name}", differs(found, *FAULT, [text]) or (None if before == after else "it was changed")
+    yield "the link to nothing", None if (folder.path / "loose").is_symlink() and not (folder.path / "nowhere").exists() else "it was followed"
+    (folder.path / "empty").write_bytes(b"")
+    (folder.path / "zeros").write_bytes(bytes(40))
+    (folder.path / "to_image").symlink_to("image")
+    for name in ("image", "image", "empty", "zeros", "to_image"):
+        yield f"format to {name}", differs(folder.asked("format", "file", name), 0, "formatted\n", [])
+
+    def small():
+        signal.signal(signal.SIGXFSZ, signal.SIG_IGN)
+        resource.setrlimit(resource.RLIMIT_FSIZE, (64, 64))
+
+    yield "format without room", differs(folder.asked("format", "file", "small", before=small), *FAULT, ['"small" cannot be written: File too large'])
+
+
+def in_use(folder):
+    """Two programs on one image: the second one says so, and writes nothing."""
+    whole = (folder.path / "image").read_bytes()
+    with open(folder.path / "image", "rb") as held:
+        fcntl.flock(held, fcntl.LOCK_EX)
+        for words in (["format", "file", "image"], ["run", "file", "cert", "image", "script"]):
+            found = folder.asked(*words)
+            same = (folder.path / "image").read_bytes() == whole
+            yield f"{words[0]} of an image in use", differs(found, *FAULT, ['ygg: "image" is in use\n']) or (None if same else "it was changed")
+    (folder.path / "long").write_text("ygg-script 1\n" + "call put 01 02\n" * 30000 + "end\n")
+    children = [folder.start("run", "file", "cert", "image", "long") for _ in range(2)]
+    ends = sorted((child.communicate()[0].decode().splitlines()[-1], child.returncode) for child in children)
+    yield "two runs at once", None if ends == [("fault device", 4), ("ran 30000", 0)] else f"{ends}"
+
+
+def images(folder):
+    """Refusals and faults of `run` on images."""
+    run = ["run", "file", "cert", "image", "script"]
+    whole = (folder.path / "image").read_bytes()
+    spare = whole[:-1] + b"\1"
+    kinds = (b"", 51, "isn't formatted to its end"), (whole + whole, 52, "of a disk of another size"), (spare, 53, "a bit set that no row has")
+    for image, number, text in kinds:
+        (folder.path / "image").write_bytes(image)
+        yield f"run on an image: {number}", differs(folder.asked(*run), 2, f"refused {number} 0:3\n", ['ygg: "image": ', text])
+    (folder.path / "image").write_bytes(whole)
+    swapped = folder.asked("run", "file", "image", "cert", "script")
+    yield "run with its words swapped", differs(swapped, 2, "refused 21 1:1\n", ["image:1:1: this is no certificate"])
+    yield "run without an image", differs(folder.asked("run", "file", "cert", "none", "script"), 2, "refused 73 0:3\n", ['"none": no such file'])
+    (folder.path / "image").chmod(0o444)
+    (folder.path / "file").chmod(0o644)
+    user = (lambda: os.setuid(65534)) if os.geteuid() == 0 else None
+    yield "run on an image that may not be written", differs(folder.asked(*run, before=user), *FAULT, ['"image" cannot be opened: Permission denied'])
+    (folder.path / "image").chmod(0o644)
+    yield "verify of a folder", differs(folder.asked("verify", "folder"), 4, "fault library\n", ['"folder" is no regular file'])
+
+
+def spends(folder):
+    """Budgets that are spent."""
+    found = folder.asked("verify", "file", "1")
+    yield "verify within 1", differs(found, 3, "", ["ygg: gave up on pair.", "after 1 learned clauses", "ygg verify file 10000000"])
+    (folder.path / "cnf").write_text("p cnf 2 4\n1 2 0\n-1 2 0\n1 -2 0\n-1 -2 0\n")
+    found = folder.asked("solve", "cnf", "1")
+    yield "solve within 1", differs(found, 3, "undecided\n", ["ygg: gave up after 1 learned clauses", "ygg solve cnf 10000000"])
+
+
+def told(ygg):
+    """All cases, each by its name, and what is wrong of it, or None."""
+    yield from refusals(ygg)
+    with tempfile.TemporaryDirectory() as path:
+        os.chmod(path, 0o755)
+        folder = Folder(ygg, path, {"file": PAIR, "other": "a file of another kind\n", "script": "ygg-script 1\ncall put 01 02\nend\n"})
+        (folder.path / "cert").write_text(folder.asked("certify", "file")[1])
+        yield from formats(folder)
+        yield from in_use(folder)
+        yield from images(folder)
+        yield from spends(folder)
