@@ -1,7 +1,7 @@
 # Runs the program that $program names with the given words: the last part of the script ygg, in a clone and in a release.
 
-# `-f format FILE IMAGE` formats also where IMAGE is a file that is no image: it is removed, where FILE is one that is taken. What is to become of an image, the program says,
-# and all other words are its own.
+# `-f format FILE IMAGE` formats also where IMAGE is a file that is no image: it is removed, where FILE is one that is taken. What is to become of an image,
+# the program says, and all other words are its own.
 is_image() {
     head -c 7 -- "$1" 2>/dev/null | grep -q '^YGGIMG1$'
 }

@@ -1,7 +1,8 @@
 """What a program of the repository is made from, and how it is kept in build/out/.
 
-A program stands there as a file, and beside it its stamp: a file that is as old as the beginning of its build, and lists, a path on a line, the sources that decide
-what it does and what is proved of it. The program is up to date where none of these is newer than the stamp or gone. The script ygg asks that by itself.
+A program stands there as a file, and beside it its stamp: a file that is as old as the beginning of its build, and lists, a path on a line, the sources that
+decide what it does and what is proved of it. The program is up to date where none of these is newer than the stamp or gone. The script ygg asks that by
+itself.
 """
 import fcntl
 import os
@@ -90,7 +91,7 @@ def is_current(name, paths):
 
 
 def only_one(name, waits=True):
-    """Holds the lock of this name while the file that it answers is open: only one of several calls builds. Where another one holds it, it waits or answers None."""
+    """Holds the lock of this name while the file that it answers is open, so that only one of several calls builds. Where it is held, it waits or answers None."""
     os.makedirs(ROOM, exist_ok=True)
     file = open(os.path.join(ROOM, name), "w", encoding="utf-8")
     try:

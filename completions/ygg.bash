@@ -1,7 +1,7 @@
 # Completion of ygg's words in bash: its commands, and for each of these the files and words that it takes, in their order.
 
 _ygg() {
-    local commands='verify certify check print replay play format run solve cnf demo --help --version' word=${COMP_WORDS[COMP_CWORD]} takes
+    local commands='verify certify check print replay play format run solve cnf demo --help --version' word=${COMP_WORDS[COMP_CWORD]} takes names
     COMPREPLY=()
     if [ "$COMP_CWORD" -eq 1 ]; then
         COMPREPLY=($(compgen -W "$commands" -- "$word"))
@@ -20,7 +20,10 @@ _ygg() {
     layer) COMPREPLY=($(compgen -f -X '!*.ygg' -- "$word") $(compgen -d -S / -- "$word")) ;;
     any) COMPREPLY=($(compgen -f -- "$word")) ;;
     # a budget of 1 names all obligations, and is quick
-    obligation) COMPREPLY=($(compgen -W "$("${COMP_WORDS[0]}" verify "${COMP_WORDS[2]}" 1 2>/dev/null | sed -n 's/^\(holds\|fails\|spent\) \([^ ]*\).*/\2/p')" -- "$word")) ;;
+    obligation)
+        names=$("${COMP_WORDS[0]}" verify "${COMP_WORDS[2]}" 1 2>/dev/null | sed -n 's/^\(holds\|fails\|spent\) \([^ ]*\).*/\2/p')
+        COMPREPLY=($(compgen -W "$names" -- "$word"))
+        ;;
     esac
 }
 

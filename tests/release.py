@@ -1,4 +1,6 @@
-"""What build/release makes: the same bytes twice, and an archive that is unpacked, installed and used from an empty folder, by a user who isn't root where the tests run as root.
+"""What build/release makes: the same bytes twice, and an archive that is unpacked, installed and used from an empty folder.
+
+Where the tests run as root, a user who isn't root does that.
 
 It is made of a stand-in for the proved program, which prints a version and a help, and else its words. Nothing is proved.
 """
