@@ -16,8 +16,8 @@ import re
 import sys
 
 TOP = pathlib.Path(__file__).resolve().parent.parent
-PAGES = ["README.md", "examples/README.md", *sorted(f"docs/{path.name}" for path in (TOP / "docs").glob("*.md"))]
-SHOWING = ["README.md", "docs/TUTORIAL.md", "docs/RELATIONS.md"]
+PAGES = ["README.md", "INSTALL.md", "examples/README.md", *sorted(f"docs/{path.name}" for path in (TOP / "docs").glob("*.md"))]
+SHOWING = ["README.md", "docs/TUTORIAL.md", "docs/RELATIONS.md", "docs/HOW_DO_I_SAY.md"]
 STATUSES = {"holds": 0, "verified": 0, "refuted": 1, "end": 1, "refused": 2, "undecided": 3}
 
 
