@@ -1,7 +1,7 @@
 -- A recovery over terms that power cuts, another after it, and one whole recovery from the first base.
 use Rattle.std.proofs.Common.{◌≡◌, ◌&&◌, ◌||◌, not, Bool, true, List, [], ap, ◌∙◌}
 use Rattle.std.specs.Prelude.{Option}
-use Rattle.ygg_value.specs.declared.operation.Op.TheVariants.{And, Imp}
+use Rattle.ygg_value.specs.declared.operation.Op.TheVariants.{And}
 use Rattle.ygg_value.specs.declared.shape.Shape.{Shape}
 use Rattle.ygg_syntax.specs.declared.tree.Def.{Def}
 use Rattle.ygg_sym_laws.specs.ygg_meaning.Environments.{same_env}
@@ -28,12 +28,13 @@ use Rattle.ygg_sym_laws.specs.ygg_sym_runs.StopTerms.{SymFallen}
 use Rattle.ygg_sym_laws.specs.ygg_sym_runs_proofs_Lows.{low_wider}
 use Rattle.ygg_sym_laws.specs.Below.{zeros_made}
 use Rattle.ygg_sym_laws.specs.Means.{terms_of, values_in, WorthFall, WholeMeans, FallMeans}
+use Rattle.ygg_oblige_laws.specs.Implied.{implied_made}
 use Rattle.ygg_oblige_laws.specs.LayerTerms.{ShapesKept}
 use Rattle.ygg_oblige_laws.specs.Numbers.{Numbers}
 use Rattle.ygg_oblige_laws.specs.TermStates.{Starting, settled_made, all_compared}
 use Rattle.ygg_oblige_laws.specs.Terms.{Finish, recovered, cut_short, recovers_again}
 use Rattle.ygg_oblige_laws.specs.Steps.{end_worth}
-use Rattle.ygg_oblige_laws.proofs.Digits.{both_is, implied_is}
+use Rattle.ygg_oblige_laws.proofs.Digits.{both_is, implied_grows, implied_is}
 use Rattle.ygg_oblige_laws.proofs.Setting.{Ready}
 use Rattle.ygg_oblige_laws.proofs.Wholes.{woken, Woken, woken_gives, recovered_grows, recovered_gives}
 use Rattle.ygg_oblige_laws.specs.Parts.{PartsMean}
@@ -85,7 +86,7 @@ module _ (kinds : List RuleKind) (defs : List Def) (G : Below) (L : ClosedLayer)
       let a = made kinds (Bin And m.value b.value) b.nodes in
       let k = made kinds (Bin And s.value a.value) a.nodes in
       let y = made kinds (Bin And S.settled c.value.reached) k.nodes in
-      let t = made kinds (Bin Imp y.value k.value) y.nodes in
+      let t = implied_made kinds y.value k.value y.nodes in
       extends_both nodes z.nodes t.nodes ((parts.comparing.zeros_add L.layer.memory).grows nodes)
       (extends_both z.nodes c.nodes t.nodes (falls.grows n.run n.stop n.last (woken z.value low) z.nodes)
       (extends_both c.nodes e.nodes t.nodes (recovered_grows kinds defs G L parts inputs v shape whole shapes n.wake c.value.fallen c.nodes)
@@ -96,7 +97,7 @@ module _ (kinds : List RuleKind) (defs : List Def) (G : Below) (L : ClosedLayer)
       (extends_both b.nodes a.nodes t.nodes (made_grows kinds (Bin And m.value b.value) b.nodes)
       (extends_both a.nodes k.nodes t.nodes (made_grows kinds (Bin And s.value a.value) a.nodes)
       (extends_both k.nodes y.nodes t.nodes (made_grows kinds (Bin And S.settled c.value.reached) k.nodes)
-      (made_grows kinds (Bin Imp y.value k.value) y.nodes))))))))))
+      (implied_grows kinds y.value k.value y.nodes))))))))))
 
   pub again_gives : (falls : FallMeans kinds defs G L L.layer.recover L.layer.memory []) (n : Numbers) (S : Starting) (nodes : List Node) → Ready L nodes S →
       Gives inputs v (recovers_again kinds (terms_of kinds defs) L G n S) nodes (AgainSo n S)
@@ -113,7 +114,7 @@ module _ (kinds : List RuleKind) (defs : List Def) (G : Below) (L : ClosedLayer)
       let a = made kinds (Bin And m.value b.value) b.nodes in
       let k = made kinds (Bin And s.value a.value) a.nodes in
       let y = made kinds (Bin And S.settled c.value.reached) k.nodes in
-      let t = made kinds (Bin Imp y.value k.value) y.nodes in
+      let t = implied_made kinds y.value k.value y.nodes in
       let gz = (parts.comparing.zeros_add L.layer.memory).grows nodes in
       let gc = falls.grows n.run n.stop n.last (woken z.value low) z.nodes in
       let ge = recovered_grows kinds defs G L parts inputs v shape whole shapes n.wake c.value.fallen c.nodes in
@@ -124,7 +125,7 @@ module _ (kinds : List RuleKind) (defs : List Def) (G : Below) (L : ClosedLayer)
       let ga = made_grows kinds (Bin And m.value b.value) b.nodes in
       let gk = made_grows kinds (Bin And s.value a.value) a.nodes in
       let gy = made_grows kinds (Bin And S.settled c.value.reached) k.nodes in
-      let gt = made_grows kinds (Bin Imp y.value k.value) y.nodes in
+      let gt = implied_grows kinds y.value k.value y.nodes in
       let hy = fits_fewer inputs v y.nodes t.nodes gt h in
       let hk = fits_fewer inputs v k.nodes y.nodes gy hy in
       let ha = fits_fewer inputs v a.nodes k.nodes gk hk in

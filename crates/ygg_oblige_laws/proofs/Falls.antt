@@ -1,7 +1,7 @@
 -- Runs over terms that power cuts, a recovery after them, and whether the specification's step passes then.
 use Rattle.std.proofs.Common.{◌≡◌, ◌&&◌, ◌||◌, not, true, List, [], ap, ◌∙◌, subst}
 use Rattle.std.specs.Prelude.{Option}
-use Rattle.ygg_value.specs.declared.operation.Op.TheVariants.{And, Imp}
+use Rattle.ygg_value.specs.declared.operation.Op.TheVariants.{And}
 use Rattle.ygg_value.specs.declared.shape.Shape.{Shape}
 use Rattle.ygg_syntax.specs.declared.tree.Block.{Block}
 use Rattle.ygg_syntax.specs.declared.tree.Declared.{Declared}
@@ -28,12 +28,13 @@ use Rattle.ygg_sym_laws.specs.ygg_sym_runs.Lows.{LowShaped, low_worth}
 use Rattle.ygg_sym_laws.specs.ygg_sym_runs.StopTerms.{SymFallen}
 use Rattle.ygg_sym_laws.specs.ygg_sym_runs_proofs_Lows.{low_wider}
 use Rattle.ygg_sym_laws.specs.Means.{terms_of, values_in, Begins, WorthFall, WholeMeans, FallMeans}
+use Rattle.ygg_oblige_laws.specs.Implied.{implied_made}
 use Rattle.ygg_oblige_laws.specs.LayerTerms.{ShapesKept}
 use Rattle.ygg_oblige_laws.specs.Numbers.{Numbers, arguments_of}
 use Rattle.ygg_oblige_laws.specs.TermStates.{Starting, settled_made}
 use Rattle.ygg_oblige_laws.specs.Terms.{Finish, some_passes, recovered, cut_short, recovers, falls_through}
 use Rattle.ygg_oblige_laws.specs.Steps.{HasStep, variables_of, ObligationTyped, AnswerKept, StepIs, end_worth, PassesSo}
-use Rattle.ygg_oblige_laws.proofs.Digits.{both_is, implied_is}
+use Rattle.ygg_oblige_laws.proofs.Digits.{both_is, implied_grows, implied_is}
 use Rattle.ygg_oblige_laws.proofs.Setting.{Ready, ready_wider, answer_wider}
 use Rattle.ygg_oblige_laws.proofs.Wholes.{begun, recovered_grows, recovered_gives}
 use Rattle.ygg_oblige_laws.specs.Parts.{PartsMean}
@@ -77,11 +78,11 @@ module _ (kinds : List RuleKind) (defs : List Def) (G : Below) (L : ClosedLayer)
         let s = settled_made kinds terms L fallen r.nodes in
         let p = some_passes kinds terms L o vars args r.value s.nodes in
         let c = made kinds (Bin And s.value p.value) p.nodes in
-        let t = made kinds (Bin Imp hypothesis c.value) c.nodes in
+        let t = implied_made kinds hypothesis c.value c.nodes in
         extends_both nodes r.nodes t.nodes (recovered_grows kinds defs G L parts inputs v shape whole shapes n.wake fallen nodes)
         (extends_both r.nodes s.nodes t.nodes ((parts.states.settled_add fallen).grows r.nodes)
         (extends_both s.nodes p.nodes t.nodes ((parts.steps.adds o vars args r.value).grows s.nodes)
-        (extends_both p.nodes c.nodes t.nodes (made_grows kinds (Bin And s.value p.value) p.nodes) (made_grows kinds (Bin Imp hypothesis c.value) c.nodes))))
+        (extends_both p.nodes c.nodes t.nodes (made_grows kinds (Bin And s.value p.value) p.nodes) (implied_grows kinds hypothesis c.value c.nodes))))
 
     pub recovers_give : (n : Numbers) (hypothesis : Id) (vars args fallen : List SymValue) (nodes : List Node) → HasWidth nodes hypothesis 1 →
         LowShaped nodes (variables_of L o) vars → LowShaped nodes (arguments_of o) args → LowShaped nodes L.low fallen →
@@ -93,12 +94,12 @@ module _ (kinds : List RuleKind) (defs : List Def) (G : Below) (L : ClosedLayer)
         let s = settled_made kinds terms L fallen r.nodes in
         let p = some_passes kinds terms L o vars args r.value s.nodes in
         let c = made kinds (Bin And s.value p.value) p.nodes in
-        let t = made kinds (Bin Imp hypothesis c.value) c.nodes in
+        let t = implied_made kinds hypothesis c.value c.nodes in
         let gr = recovered_grows kinds defs G L parts inputs v shape whole shapes n.wake fallen nodes in
         let gs = (parts.states.settled_add fallen).grows r.nodes in
         let gp = (parts.steps.adds o vars args r.value).grows s.nodes in
         let gc = made_grows kinds (Bin And s.value p.value) p.nodes in
-        let gt = made_grows kinds (Bin Imp hypothesis c.value) c.nodes in
+        let gt = implied_grows kinds hypothesis c.value c.nodes in
         let hc = fits_fewer inputs v c.nodes t.nodes gt h in
         let hp = fits_fewer inputs v p.nodes c.nodes gc hc in
         let hs = fits_fewer inputs v s.nodes p.nodes gp hp in

@@ -1,7 +1,7 @@
 -- The inputs that the terms of obligations have: those of their numbers alone.
 use Rattle.std.proofs.Common.{◌≤◌, ◌+◌, ◌*◌, ℕ, List, [], arith}
 use Rattle.std.specs.Prelude.{Option}
-use Rattle.ygg_value.specs.declared.operation.Op.TheVariants.{And, Imp}
+use Rattle.ygg_value.specs.declared.operation.Op.TheVariants.{And}
 use Rattle.ygg_value.specs.declared.shape.Shape.{Shape}
 use Rattle.ygg_syntax.specs.declared.tree.Block.{Block}
 use Rattle.ygg_syntax.specs.declared.tree.Declared.{Declared}
@@ -16,12 +16,13 @@ use Rattle.ygg_sym_laws.specs.ygg_bank.Makes.{Make, and_make}
 use Rattle.ygg_sym_laws.specs.ygg_bank.Making.{made}
 use Rattle.ygg_sym_laws.specs.ygg_bank.declared.node.Id.{Id}
 use Rattle.ygg_sym_laws.specs.ygg_bank.declared.node.Node.{Node}
-use Rattle.ygg_sym_laws.specs.ygg_bank.declared.node.Node.TheVariants.{Bin}
+use Rattle.ygg_sym_laws.specs.ygg_bank.declared.node.Node.TheVariants.{Bin, Not}
 use Rattle.ygg_sym_laws.specs.ygg_shape_cells.declared.terms.SymValue.{SymValue}
 use Rattle.ygg_sym_laws.specs.ygg_sym_runs_proofs_Keeps.{Keeps}
 use Rattle.ygg_sym_laws.proofs.of_ygg_sym_runs.Below.{below_more}
 use Rattle.ygg_sym_laws.specs.Below.{places_on, failure_room, zeros_made, lows_at_start, lost_made}
 use Rattle.ygg_sym_laws.specs.Means.{terms_of, values_in, WholeMeans, FallMeans}
+use Rattle.ygg_oblige_laws.specs.Implied.{implied_made}
 use Rattle.ygg_oblige_laws.specs.Numbers.{Numbers, numbers_of, arguments_of}
 use Rattle.ygg_oblige_laws.specs.TermStates.{Starting, words_in, all_compared, settled_made, fresh_all}
 use Rattle.ygg_oblige_laws.specs.Terms.{
@@ -57,8 +58,11 @@ module _ (kinds : List RuleKind) (defs : List Def) (G : Below) (L : ClosedLayer)
   both_keep : (a b : Id) → Keeps P (made kinds (Bin And a b))
   both_keep a b nodes p = made_keeps kinds (Bin And a b) nodes next tt p
 
-  implied_keep : (a b : Id) → Keeps P (made kinds (Bin Imp a b))
-  implied_keep a b nodes p = made_keeps kinds (Bin Imp a b) nodes next tt p
+  implied_keep : (a b : Id) → Keeps P (implied_made kinds a b)
+  implied_keep a b nodes p =
+      let n = made kinds (Not b) nodes in
+      let c = made kinds (Bin And a n.value) n.nodes in
+      made_keeps kinds (Not c.value) c.nodes next tt (both_keep a n.value n.nodes (made_keeps kinds (Not b) nodes next tt p))
 
   passes_keep : (o : Obligation) (vars args : List SymValue) (end : Finish) → Keeps P (some_passes kinds (terms_of kinds defs) L o vars args end)
   passes_keep o vars args end = adds_keep (some_passes kinds (terms_of kinds defs) L o vars args end) (parts.steps.adds o vars args end)

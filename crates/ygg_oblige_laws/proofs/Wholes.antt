@@ -1,7 +1,6 @@
 -- Whole runs over terms of a layer's blocks, and whether the specification's step passes after them.
 use Rattle.std.proofs.Common.{◌≡◌, ◌||◌, not, ℕ, Bool, true, List, [], refl, subst}
 use Rattle.std.specs.Prelude.{IsTrue, Option}
-use Rattle.ygg_value.specs.declared.operation.Op.TheVariants.{Imp}
 use Rattle.ygg_value.specs.declared.shape.Shape.{Shape}
 use Rattle.ygg_syntax.specs.declared.tree.Block.{Block}
 use Rattle.ygg_syntax.specs.declared.tree.Declared.{Declared}
@@ -15,15 +14,12 @@ use Rattle.ygg_sym_laws.specs.ygg_meaning.Obligations.{Schedule, Obligation}
 use Rattle.ygg_sym_laws.specs.ygg_meaning.Refines.{Below, machine_below}
 use Rattle.ygg_sym_laws.specs.ygg_meaning_laws.Blocks.{is_returned}
 use Rattle.ygg_sym_laws.specs.ygg_rules.declared.rule.RuleKind.{RuleKind}
-use Rattle.ygg_sym_laws.specs.ygg_bank_proofs_Made.{made_grows}
 use Rattle.ygg_sym_laws.specs.ygg_bank_proofs_Meaning.{fits_fewer}
 use Rattle.ygg_sym_laws.specs.ygg_bank_proofs_Widths.{wider, extends_both}
-use Rattle.ygg_sym_laws.specs.ygg_bank.Making.{made}
 use Rattle.ygg_sym_laws.specs.ygg_bank.Nodes.{HasWidth}
 use Rattle.ygg_sym_laws.specs.ygg_bank.Values.{Inputs, Values, Fits}
 use Rattle.ygg_sym_laws.specs.ygg_bank.declared.node.Id.{Id}
 use Rattle.ygg_sym_laws.specs.ygg_bank.declared.node.Node.{Node}
-use Rattle.ygg_sym_laws.specs.ygg_bank.declared.node.Node.TheVariants.{Bin}
 use Rattle.ygg_sym_laws.specs.ygg_shape_cells.declared.terms.SymValue.{SymValue}
 use Rattle.ygg_sym_laws.specs.ygg_sym_runs.ExpressionMeaning.{Grows, Gives}
 use Rattle.ygg_sym_laws.specs.ygg_sym_runs.Meaning.{answer_worth, is_set}
@@ -31,12 +27,13 @@ use Rattle.ygg_sym_laws.specs.ygg_sym_runs.Lows.{LowShaped, low_worth}
 use Rattle.ygg_sym_laws.specs.ygg_sym_runs_proofs_Lows.{low_wider}
 use Rattle.ygg_sym_laws.specs.Below.{places_on, zeros_made}
 use Rattle.ygg_sym_laws.specs.Means.{AreBits, values_in, terms_of, Values3, Begins, WholeAfter, WorthRun, EndsSo, WholeMeans}
+use Rattle.ygg_oblige_laws.specs.Implied.{implied_made}
 use Rattle.ygg_oblige_laws.specs.LayerTerms.{ShapesKept}
 use Rattle.ygg_oblige_laws.specs.Numbers.{Numbers, arguments_of}
 use Rattle.ygg_oblige_laws.specs.TermStates.{Starting}
 use Rattle.ygg_oblige_laws.specs.Terms.{Finish, some_passes, ran, recovered, runs_through}
 use Rattle.ygg_oblige_laws.specs.Steps.{HasStep, variables_of, ObligationTyped, AnswerKept, StepShaped, StepIs, end_worth, PassesSo}
-use Rattle.ygg_oblige_laws.proofs.Digits.{implied_is}
+use Rattle.ygg_oblige_laws.proofs.Digits.{implied_grows, implied_is}
 use Rattle.ygg_oblige_laws.proofs.Setting.{Ready, EndsWith}
 use Rattle.ygg_oblige_laws.specs.Parts.{PartsMean}
 
@@ -84,10 +81,10 @@ module _ (kinds : List RuleKind) (defs : List Def) (G : Below) (L : ClosedLayer)
         let terms = terms_of kinds defs in
         let r = ran kinds terms L G n.run b S.from.memory (arguments_of o) args S.from.low nodes in
         let s = some_passes kinds terms L o S.from.vars args r.value r.nodes in
-        let t = made kinds (Bin Imp S.related s.value) s.nodes in
+        let t = implied_made kinds S.related s.value s.nodes in
         let gr = whole.grows n.run (begun S args) nodes in
         let gs = (parts.steps.adds o S.from.vars args r.value).grows r.nodes in
-        let gt = made_grows kinds (Bin Imp S.related s.value) s.nodes in
+        let gt = implied_grows kinds S.related s.value s.nodes in
         let hs = fits_fewer inputs v s.nodes t.nodes gt h in
         let hr = fits_fewer inputs v r.nodes s.nodes gs hs in
         let begins : Begins kinds defs G L b L.layer.memory (arguments_of o) nodes (begun S args) =
@@ -114,10 +111,10 @@ module _ (kinds : List RuleKind) (defs : List Def) (G : Below) (L : ClosedLayer)
         let terms = terms_of kinds defs in
         let r = ran kinds terms L G n.run b S.from.memory (arguments_of o) args S.from.low nodes in
         let s = some_passes kinds terms L o S.from.vars args r.value r.nodes in
-        let t = made kinds (Bin Imp S.related s.value) s.nodes in
+        let t = implied_made kinds S.related s.value s.nodes in
         extends_both nodes r.nodes t.nodes (whole.grows n.run (begun S args) nodes)
         (extends_both r.nodes s.nodes t.nodes ((parts.steps.adds o S.from.vars args r.value).grows r.nodes)
-        (made_grows kinds (Bin Imp S.related s.value) s.nodes))
+        (implied_grows kinds S.related s.value s.nodes))
 
     -- the nodes after the run fit
     pub run_fit : (n : Numbers) (S : Starting) (args : List SymValue) (nodes : List Node) →
@@ -127,9 +124,9 @@ module _ (kinds : List RuleKind) (defs : List Def) (G : Below) (L : ClosedLayer)
         let terms = terms_of kinds defs in
         let r = ran kinds terms L G n.run b S.from.memory (arguments_of o) args S.from.low nodes in
         let s = some_passes kinds terms L o S.from.vars args r.value r.nodes in
-        let t = made kinds (Bin Imp S.related s.value) s.nodes in
+        let t = implied_made kinds S.related s.value s.nodes in
         let gs = (parts.steps.adds o S.from.vars args r.value).grows r.nodes in
-        fits_fewer inputs v r.nodes s.nodes gs (fits_fewer inputs v s.nodes t.nodes (made_grows kinds (Bin Imp S.related s.value) s.nodes) h)
+        fits_fewer inputs v r.nodes s.nodes gs (fits_fewer inputs v s.nodes t.nodes (implied_grows kinds S.related s.value s.nodes) h)
 
   -- a whole recovery over zeros of memory
   pub record RecoveredSo (shape : Option Shape) (low : List SymValue) (nodes : List Node) (end : Finish) : Type 0 where

@@ -29,6 +29,7 @@ pub mod Inputs
 pub mod Worth
 pub mod States
 pub mod Steps
+pub mod Implied
 pub mod TermStates
 pub mod Outcomes
 pub mod Numbers

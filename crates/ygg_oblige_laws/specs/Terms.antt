@@ -1,7 +1,7 @@
 -- The terms of obligations.
 use Rattle.std.specs.Prelude.{ℕ, ◌+◌, List, [], ◌∷◌, ◌++◌, Option}
 use Rattle.ygg_value.specs.Words.{word}
-use Rattle.ygg_value.specs.declared.operation.Op.TheVariants.{And, Imp}
+use Rattle.ygg_value.specs.declared.operation.Op.TheVariants.{And}
 use Rattle.ygg_syntax.specs.declared.tree.Block.{Block}
 use Rattle.ygg_syntax.specs.declared.tree.Declared.{Declared}
 use Rattle.ygg_syntax.specs.declared.tree.DiskText.{DiskText}
@@ -24,6 +24,7 @@ use Rattle.ygg_sym_laws.specs.StopTerms.{SymFallen}
 use Rattle.ygg_sym_laws.specs.Wholes.{SymFinish}
 use Rattle.ygg_sym_laws.specs.Below.{zeros_made, lows_at_start, run_made, cut_made, lost_made}
 use Rattle.ygg_sym_laws.specs.Means.{terms_of, values_in}
+use Rattle.ygg_oblige_laws.specs.Implied.{implied_made}
 use Rattle.ygg_oblige_laws.specs.TermStates.{Starting, starting, state_words, fresh_all, all_compared, related_made, settled_made}
 use Rattle.ygg_oblige_laws.specs.Outcomes.{any_picks, answers_compared, outcome_made}
 use Rattle.ygg_oblige_laws.specs.Numbers.{Numbers, numbers_of, arguments_of}
@@ -71,13 +72,13 @@ module _ (kinds : List RuleKind) (terms : SymFunctions) (L : ClosedLayer) where
         and_make (recovered n.wake fallen) (λ end.
         and_make (settled_made kinds terms L fallen) (λ side.
         and_make (some_passes o vars args end) (λ some.
-        and_make (made kinds (Bin And side some)) (λ conclusion. made kinds (Bin Imp hypothesis conclusion)))))
+        and_make (made kinds (Bin And side some)) (λ conclusion. implied_made kinds hypothesis conclusion))))
 
     -- a whole run of a block ends in a state that passes
     abbrev pub runs_through : Obligation → Numbers → Starting → Block → List SymValue → Make Id
     runs_through o n S b args =
         and_make (ran n.run b S.from.memory (arguments_of o) args S.from.low) (λ end.
-        and_make (some_passes o S.from.vars args end) (λ some. made kinds (Bin Imp S.related some)))
+        and_make (some_passes o S.from.vars args end) (λ some. implied_made kinds S.related some))
 
     -- a run of a block that power cuts, and a recovery
     abbrev pub falls_through : Obligation → Numbers → Starting → Block → List SymValue → Make Id
@@ -97,7 +98,7 @@ module _ (kinds : List RuleKind) (terms : SymFunctions) (L : ClosedLayer) where
         and_make (all_compared kinds end.to other.to) (λ bases.
         and_make (made kinds (Bin And memories bases)) (λ same.
         and_make (made kinds (Bin And side same)) (λ conclusion.
-        and_make (made kinds (Bin And S.settled left.reached)) (λ hypothesis. made kinds (Bin Imp hypothesis conclusion)))))))))))
+        and_make (made kinds (Bin And S.settled left.reached)) (λ hypothesis. implied_made kinds hypothesis conclusion))))))))))
 
     -- formatting ends in a state that passes
     abbrev pub formats : Numbers → Make Id
