@@ -8,12 +8,13 @@ pub mod Fresh
 pub mod Truth
 pub mod Compares
 pub mod Truths
+pub mod Digits
+pub mod Under
 pub mod Starting
 pub mod Placed
 pub mod AnyPicks
 pub mod Outcomes
 pub mod Steps
-pub mod Digits
 pub mod Setting
 pub mod Wholes
 pub mod Falls

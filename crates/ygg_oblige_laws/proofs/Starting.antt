@@ -1,5 +1,5 @@
 -- The states that obligations begin with.
-use Rattle.std.proofs.Common.{◌≡◌, ◌&&◌, ◌+◌, ℕ, true, List, [], ◌∷◌, map, refl, ap, ◌∙◌, subst, arith}
+use Rattle.std.proofs.Common.{◌≡◌, ◌&&◌, ◌+◌, ℕ, true, List, [], ◌∷◌, map, refl, sym, ap, ◌∙◌, subst, arith}
 use Rattle.std.proofs.lemmas.Bool.{and_from as both_of, eqb-true}
 use Rattle.std.proofs.lemmas.List.Elements.{All-weaker}
 use Rattle.ygg_value.specs.Words.{word}
@@ -8,7 +8,7 @@ use Rattle.ygg_syntax.specs.declared.tree.Def.{Def}
 use Rattle.ygg_sym_laws.specs.ygg_meaning.Environments.{bind}
 use Rattle.ygg_sym_laws.specs.ygg_meaning.Layer.{ClosedLayer}
 use Rattle.ygg_sym_laws.specs.ygg_meaning.Refines.{Below}
-use Rattle.ygg_sym_laws.specs.ygg_meaning.Related.{relations}
+use Rattle.ygg_sym_laws.specs.ygg_meaning.Related.{all_true, relations, relates, settles}
 use Rattle.ygg_sym_laws.specs.ygg_meaning.Shapes.{shape_in, env_fits}
 use Rattle.ygg_sym_laws.specs.ygg_rules.declared.rule.RuleKind.{RuleKind}
 use Rattle.ygg_sym_laws.specs.ygg_bank_proofs_Made.{made_grows}
@@ -40,10 +40,25 @@ use Rattle.ygg_sym_laws.proofs.Lows.{low_wider}
 use Rattle.ygg_sym_laws.specs.Lows.{LowShaped, low_worth}
 use Rattle.ygg_sym_laws.specs.Means.{terms_of}
 use Rattle.ygg_oblige_laws.specs.LayerTerms.{LayerTyped}
-use Rattle.ygg_oblige_laws.specs.TermStates.{words_in, Trio, replaced_all, fresh_all, trio_scope, related_made, settled_made, fresh_trio, state_words, starting}
+use Rattle.ygg_oblige_laws.specs.TermStates.{
+  words_in,
+  Trio,
+  replaced_all,
+  replaced_trio,
+  fresh_all,
+  trio_scope,
+  related_made,
+  settled_made,
+  related_under,
+  settled_under,
+  fresh_trio,
+  state_words,
+  starting,
+}
 use Rattle.ygg_oblige_laws.proofs.Fresh.{all_grows, all_stand, all_below, all_gives, given_fits, stand_wider}
-use Rattle.ygg_oblige_laws.proofs.Truth.{adds, one_word, none_word}
+use Rattle.ygg_oblige_laws.proofs.Truth.{adds}
 use Rattle.ygg_oblige_laws.proofs.Truths.{truths_keep, defs_keep, truths_give, related_gives, settled_gives}
+use Rattle.ygg_oblige_laws.proofs.Under.{UnderSo, facts_wider, under_keep, under_after, under_gives}
 use Rattle.ygg_oblige_laws.specs.Inputs.{given_env}
 use Rattle.ygg_oblige_laws.specs.States.{RelatedIs, SettledIs, given_stand, StartsSo, StatesStand, StatesMeanSo, AddsNoInputs}
 use Rattle.ygg_oblige_laws.specs.Worth.{TrioShaped, Stand, trio_worth}
@@ -77,18 +92,7 @@ low_same : (v : Values) (rs : List Replacement) (ds : List Declared) (xs : List 
     low_worth v ds (replaced_all rs xs) ≡ low_worth v ds xs
 low_same v rs ds xs t = ap (bind ds) (all_worth v rs xs t)
 
--- facts fit among more nodes
-facts_wider : (old new : List Node) (rs : List Replacement) → Extends old new → AreFit old rs → AreFit new rs
-facts_wider old new rs g f =
-    All-weaker (λ (r : Replacement). WordsAlike old r.input r.term) (λ (r : Replacement). WordsAlike new r.input r.term)
-    (λ r h. alike_wider old new r.input r.term g h) rs f
-
 module _ (kinds : List RuleKind) (P : List Node → Type 0) (stays : Stays kinds P) where
-  facts_keep : (h : Id) → Keeps P (facts_in kinds h)
-  facts_keep h nodes p =
-      let one = made kinds (Const (word 1 1)) nodes in
-      stays (Const (word 1 0)) one.nodes tt (stays (Const (word 1 1)) nodes tt p)
-
   module _ (terms : SymFunctions) (keep : FunctionsKeep P terms) (L : ClosedLayer) where
     pub related_keeps : (x : Trio) → Keeps P (related_made kinds terms L x)
     related_keeps x nodes p = truths_keep kinds P stays terms keep (relations L) (trio_scope kinds terms L x) nodes p
@@ -96,35 +100,22 @@ module _ (kinds : List RuleKind) (P : List Node → Type 0) (stays : Stays kinds
     pub settled_keeps : (low : List SymValue) → Keeps P (settled_made kinds terms L low)
     settled_keeps low nodes p = truths_keep kinds P stays terms keep L.layer.settled _ nodes p
 
+    related_under_keeps : (x : Trio) → Keeps P (related_under kinds terms L x)
+    related_under_keeps x =
+        under_keep kinds P stays (related_made kinds terms L x) (λ rs. related_made kinds terms L (replaced_trio rs x)) (related_keeps x)
+        (λ rs. related_keeps (replaced_trio rs x))
+
+    settled_under_keeps : (low : List SymValue) → Keeps P (settled_under kinds terms L low)
+    settled_under_keeps low =
+        under_keep kinds P stays (settled_made kinds terms L low) (λ rs. settled_made kinds terms L (replaced_all rs low)) (settled_keeps low)
+        (λ rs. settled_keeps (replaced_all rs low))
+
     -- what comes after the inputs
     tests_keep : (number : ℕ) (nodes : List Node) → P (fresh_trio kinds terms L number nodes).nodes → P (starting kinds terms L number nodes).nodes
     tests_keep number nodes p =
         let x = fresh_trio kinds terms L number nodes in
-        let related = related_made kinds terms L x.value x.nodes in
-        let facts = facts_in kinds related.value related.nodes in
-        let settled = settled_made kinds terms L x.value.low facts.nodes in
-        facts_keep settled.value settled.nodes
-        (settled_keeps x.value.low facts.nodes (facts_keep related.value related.nodes (related_keeps x.value x.nodes p)))
-
-module _ (inputs : Inputs) (v : Values) (kinds : List RuleKind) where
-  -- what a hypothesis says
-  record FactsAre (h : Id) (nodes : List Node) (rs : List Replacement) : Type 0 where
-    fit : AreFit nodes rs
-    true_under : is_set v h ≡ true → AreTrue v rs
-
-  facts_give : (h : Id) (nodes : List Node) → HasWidth nodes h 1 → Gives inputs v (facts_in kinds h) nodes (FactsAre h)
-  facts_give h nodes d f =
-      let k = made kinds (Const (word 1 1)) nodes in
-      let z = made kinds (Const (word 1 0)) k.nodes in
-      let kg = made_grows kinds (Const (word 1 1)) nodes in
-      let zg = made_grows kinds (Const (word 1 0)) k.nodes in
-      let p = made_is inputs v kinds (Const (word 1 1)) nodes one_word (fits_fewer inputs v k.nodes z.nodes zg f) in
-      let q = made_is inputs v kinds (Const (word 1 0)) k.nodes none_word f in
-      let there = wider nodes z.nodes h 1 (extends_both nodes k.nodes z.nodes kg zg) d in
-      record {
-        fit = found_fit z.nodes k.value z.value h f.ordered (wider k.nodes z.nodes k.value 1 zg p.wide) q.wide there;
-        true_under = λ e. found_true inputs v z.nodes f k.value z.value h p.is q.is (there, eqb-true (v h.0).bits 1 e);
-      }
+        let r = related_under kinds terms L x.value x.nodes in
+        settled_under_keeps x.value.low r.nodes (related_under_keeps x.value x.nodes p)
 
 module _ (kinds : List RuleKind) (defs : List Def) (G : Below) (L : ClosedLayer) where
   abbrev terms : SymFunctions
@@ -135,9 +126,6 @@ module _ (kinds : List RuleKind) (defs : List Def) (G : Below) (L : ClosedLayer)
 
   abbrev at_low : ℕ → ℕ
   at_low number = number + words_in L.layer.state + words_in L.layer.memory
-
-  facts_grow : (h : Id) → Grows (facts_in kinds h)
-  facts_grow h = let a = adds kinds (facts_in kinds h) (λ P s. facts_keep kinds P s h) in a.grows
 
   related_adds : (x : Trio) → AddsNoInputs (related_made kinds terms L x)
   related_adds x = adds kinds (related_made kinds terms L x) (λ P s. related_keeps kinds P s terms (defs_keep kinds defs P s) L x)
@@ -182,16 +170,30 @@ module _ (kinds : List RuleKind) (defs : List Def) (G : Below) (L : ClosedLayer)
       subst (λ z. InputsBelow z c.nodes) e
       (all_below kinds (at_low number) L.low b.nodes (all_below kinds (at_memory number) L.layer.memory a.nodes (all_below kinds number L.layer.state nodes h)))
 
+  related_under_grows : (x : Trio) → Grows (related_under kinds terms L x)
+  related_under_grows x =
+      let a = adds kinds (related_under kinds terms L x) (λ P s. related_under_keeps kinds P s terms (defs_keep kinds defs P s) L x) in a.grows
+
+  settled_under_grows : (low : List SymValue) → Grows (settled_under kinds terms L low)
+  settled_under_grows low =
+      let a = adds kinds (settled_under kinds terms L low) (λ P s. settled_under_keeps kinds P s terms (defs_keep kinds defs P s) L low) in a.grows
+
+  -- what comes after the test that is made first
+  related_after : (x : Trio) (nodes : List Node) → Extends (related_made kinds terms L x nodes).nodes (related_under kinds terms L x nodes).nodes
+  related_after x =
+      under_after kinds (related_made kinds terms L x) (λ rs. related_made kinds terms L (replaced_trio rs x)) (λ rs. related_grows (replaced_trio rs x))
+
+  settled_after : (low : List SymValue) (nodes : List Node) →
+      Extends (settled_made kinds terms L low nodes).nodes (settled_under kinds terms L low nodes).nodes
+  settled_after low =
+      under_after kinds (settled_made kinds terms L low) (λ rs. settled_made kinds terms L (replaced_all rs low)) (λ rs. settled_grows (replaced_all rs low))
+
   tests_grow : (number : ℕ) (nodes : List Node) → Extends (fresh_trio kinds terms L number nodes).nodes (starting kinds terms L number nodes).nodes
   tests_grow number nodes =
       let x = fresh_trio kinds terms L number nodes in
-      let related = related_made kinds terms L x.value x.nodes in
-      let facts = facts_in kinds related.value related.nodes in
-      let settled = settled_made kinds terms L x.value.low facts.nodes in
-      let settling = facts_in kinds settled.value settled.nodes in
-      extends_both x.nodes related.nodes settling.nodes (related_grows x.value x.nodes)
-      (extends_both related.nodes facts.nodes settling.nodes (facts_grow related.value related.nodes)
-      (extends_both facts.nodes settled.nodes settling.nodes (settled_grows x.value.low facts.nodes) (facts_grow settled.value settled.nodes)))
+      let r = related_under kinds terms L x.value x.nodes in
+      let s = settled_under kinds terms L x.value.low r.nodes in
+      extends_both x.nodes r.nodes s.nodes (related_under_grows x.value x.nodes) (settled_under_grows x.value.low r.nodes)
 
   starts_grow : (number : ℕ) → Grows (starting kinds terms L number)
   starts_grow number nodes =
@@ -261,68 +263,87 @@ module _ (kinds : List RuleKind) (defs : List Def) (G : Below) (L : ClosedLayer)
       low = low_wider old new L.low x.low g s.low;
     }
 
+    -- a trio with terms in the stead of inputs: its shapes, and what it is worth where the inputs are as the terms say
+    trio_shaped : (nodes : List Node) (rs : List Replacement) (x : Trio) → AreFit nodes rs → TrioShaped L nodes x → TrioShaped L nodes (replaced_trio rs x)
+    trio_shaped nodes rs x f s = record {
+      vars = all_shaped nodes rs L.layer.state x.vars f s.vars;
+      memory = all_shaped nodes rs L.layer.memory x.memory f s.memory;
+      low = all_shaped nodes rs L.low x.low f s.low;
+    }
+
+    trio_same : (rs : List Replacement) (x : Trio) → AreTrue v rs → trio_worth v L (replaced_trio rs x) ≡ trio_worth v L x
+    trio_same rs x a =
+        ap (λ z. let s : Stand = record {
+          vars = z;
+          memory = low_worth v L.layer.memory (replaced_all rs x.memory);
+          low = low_worth v L.low (replaced_all rs x.low);
+        } in s) (low_same v rs L.layer.state x.vars a)
+        ∙ ap (λ z. let s : Stand = record {
+          vars = low_worth v L.layer.state x.vars;
+          memory = z;
+          low = low_worth v L.low (replaced_all rs x.low);
+        } in s) (low_same v rs L.layer.memory x.memory a)
+        ∙ ap (λ z. let s : Stand = record { vars = low_worth v L.layer.state x.vars; memory = low_worth v L.layer.memory x.memory; low = z } in s)
+        (low_same v rs L.low x.low a)
+
+    -- the relation over a trio, as it is made anew
+    related_so : (x : Trio) (nodes : List Node) → TrioShaped L nodes x →
+        Gives inputs v (related_under kinds terms L x) nodes (UnderSo inputs v kinds (related_made kinds terms L x nodes).value)
+    related_so x nodes shaped =
+        under_gives inputs v kinds (related_made kinds terms L x) (λ rs. related_made kinds terms L (replaced_trio rs x)) nodes (related_grows x)
+        (λ rs. related_grows (replaced_trio rs x)) (λ h. let r = related_gives inputs v kinds defs G L typed x nodes shaped h in r.wide)
+        (λ rs new fit g first h.
+        let wide = trio_wider nodes new x (extends_both nodes (related_made kinds terms L x nodes).nodes new (related_grows x nodes) g) shaped in
+        let a = related_gives inputs v kinds defs G L typed (replaced_trio rs x) new (trio_shaped new rs x fit wide) h in
+        let b = related_gives inputs v kinds defs G L typed x nodes shaped first in
+        record {
+          wide = a.wide;
+          same = λ e. a.relates ∙ ap (λ (s : Stand). all_true (relates L s.vars s.memory s.low)) (trio_same rs x e) ∙ sym b.relates;
+        })
+
+    settled_so : (low : List SymValue) (nodes : List Node) → LowShaped nodes L.low low →
+        Gives inputs v (settled_under kinds terms L low) nodes (UnderSo inputs v kinds (settled_made kinds terms L low nodes).value)
+    settled_so low nodes shaped =
+        under_gives inputs v kinds (settled_made kinds terms L low) (λ rs. settled_made kinds terms L (replaced_all rs low)) nodes (settled_grows low)
+        (λ rs. settled_grows (replaced_all rs low)) (λ h. let r = settled_gives inputs v kinds defs G L typed low nodes shaped h in r.wide)
+        (λ rs new fit g first h.
+        let wide = low_wider nodes new L.low low (extends_both nodes (settled_made kinds terms L low nodes).nodes new (settled_grows low nodes) g) shaped in
+        let a = settled_gives inputs v kinds defs G L typed (replaced_all rs low) new (all_shaped new rs L.low low fit wide) h in
+        let b = settled_gives inputs v kinds defs G L typed low nodes shaped first in
+        record { wide = a.wide; same = λ e. a.settles ∙ ap (λ z. all_true (settles L z)) (low_same v rs L.low low e) ∙ sym b.settles })
+
     starts_give : (number : ℕ) (nodes : List Node) → InputsBelow number nodes →
         Gives inputs v (starting kinds terms L number) nodes (StartsSo v L (given_stand inputs number L))
     starts_give number nodes b h =
         let x = fresh_trio kinds terms L number nodes in
-        let related = related_made kinds terms L x.value x.nodes in
-        let facts = facts_in kinds related.value related.nodes in
-        let settled = settled_made kinds terms L x.value.low facts.nodes in
-        let settling = facts_in kinds settled.value settled.nodes in
+        let r = related_under kinds terms L x.value x.nodes in
+        let s = settled_under kinds terms L x.value.low r.nodes in
         let given = given_stand inputs number L in
-        let gr = related_grows x.value x.nodes in
-        let gf = facts_grow related.value related.nodes in
-        let gs = settled_grows x.value.low facts.nodes in
-        let gg = facts_grow settled.value settled.nodes in
-        let hs = fits_fewer inputs v settled.nodes settling.nodes gg h in
-        let hf = fits_fewer inputs v facts.nodes settled.nodes gs hs in
-        let hr = fits_fewer inputs v related.nodes facts.nodes gf hf in
-        let hx = fits_fewer inputs v x.nodes related.nodes gr hr in
+        let gr = related_under_grows x.value x.nodes in
+        let gs = settled_under_grows x.value.low r.nodes in
+        let hr = fits_fewer inputs v r.nodes s.nodes gs h in
+        let hx = fits_fewer inputs v x.nodes r.nodes gr hr in
         let t = trio_gives number nodes b hx in
-        let ga = extends_both x.nodes related.nodes facts.nodes gr gf in
-        let gb = extends_both facts.nodes settled.nodes settling.nodes gs gg in
-        let all = extends_both x.nodes facts.nodes settling.nodes ga gb in
-        let r = subst (λ s. RelatedIs v L s related.nodes related.value) t.is (related_gives inputs v kinds defs G L typed x.value x.nodes t.shaped hr) in
-        let f = facts_give inputs v kinds related.value related.nodes r.wide hf in
-        let low_shaped = let s = t.shaped in low_wider x.nodes facts.nodes L.low x.value.low ga s.low in
-        let low_is : low_worth v L.low x.value.low ≡ given.low = ap (λ (s : Stand). s.low) t.is in
-        let s = subst (λ e. SettledIs v L e settled.nodes settled.value) low_is
-        (settled_gives inputs v kinds defs G L typed x.value.low facts.nodes low_shaped hs) in
-        let k = facts_give inputs v kinds settled.value settled.nodes s.wide h in
-        let fit = facts_wider facts.nodes settling.nodes facts.value gb f.fit in
-        let wide = trio_wider x.nodes settling.nodes x.value all t.shaped in
+        let all = extends_both x.nodes r.nodes s.nodes gr gs in
+        let low_shaped = let z = t.shaped in low_wider x.nodes r.nodes L.low x.value.low gr z.low in
+        let low_is : low_worth v L.low x.value.low ≡ given.low = ap (λ (z : Stand). z.low) t.is in
+        let first = related_made kinds terms L x.value x.nodes in
+        let second = settled_made kinds terms L x.value.low r.nodes in
+        let hf = fits_fewer inputs v first.nodes r.nodes (related_after x.value x.nodes) hr in
+        let hg = fits_fewer inputs v second.nodes s.nodes (settled_after x.value.low r.nodes) h in
+        let p = subst (λ z. RelatedIs v L z first.nodes first.value) t.is (related_gives inputs v kinds defs G L typed x.value x.nodes t.shaped hf) in
+        let q = subst (λ e. SettledIs v L e second.nodes second.value) low_is
+        (settled_gives inputs v kinds defs G L typed x.value.low r.nodes low_shaped hg) in
+        let f = related_so x.value x.nodes t.shaped hr in
+        let k = settled_so x.value.low r.nodes low_shaped h in
+        let wide = trio_wider x.nodes s.nodes x.value all t.shaped in
         record {
-          related = record {
-            wide = wider related.nodes settling.nodes related.value 1 (extends_both related.nodes facts.nodes settling.nodes gf gb) r.wide;
-            relates = r.relates;
-            related = r.related;
-          };
-          from_shaped = record {
-            vars = all_shaped settling.nodes facts.value L.layer.state x.value.vars fit wide.vars;
-            memory = all_shaped settling.nodes facts.value L.layer.memory x.value.memory fit wide.memory;
-            low = all_shaped settling.nodes facts.value L.low x.value.low fit wide.low;
-          };
-          from = λ e.
-              let a = f.true_under e in
-              ap (λ z. let s : Stand = record {
-                vars = z;
-                memory = low_worth v L.layer.memory (replaced_all facts.value x.value.memory);
-                low = low_worth v L.low (replaced_all facts.value x.value.low);
-              } in s) (low_same v facts.value L.layer.state x.value.vars a)
-              ∙ ap (λ z. let s : Stand = record {
-                vars = low_worth v L.layer.state x.value.vars;
-                memory = z;
-                low = low_worth v L.low (replaced_all facts.value x.value.low);
-              } in s) (low_same v facts.value L.layer.memory x.value.memory a)
-              ∙ ap (λ z. let s : Stand = record {
-                vars = low_worth v L.layer.state x.value.vars;
-                memory = low_worth v L.layer.memory x.value.memory;
-                low = z;
-              } in s) (low_same v facts.value L.low x.value.low a)
-              ∙ t.is;
-          settled = record { wide = wider settled.nodes settling.nodes settled.value 1 gg s.wide; settles = s.settles; settled = s.settled };
-          low_shaped = all_shaped settling.nodes settling.value L.low x.value.low k.fit wide.low;
-          low = λ e. low_same v settling.value L.low x.value.low (k.true_under e) ∙ low_is;
+          related = record { wide = wider r.nodes s.nodes r.value.test 1 gs f.wide; relates = f.same ∙ p.relates; related = f.same ∙ p.related };
+          from_shaped = trio_shaped s.nodes r.value.facts x.value (facts_wider r.nodes s.nodes r.value.facts gs f.fit) wide;
+          from = λ e. trio_same r.value.facts x.value (f.true_under e) ∙ t.is;
+          settled = record { wide = k.wide; settles = k.same ∙ q.settles; settled = k.same ∙ q.settled };
+          low_shaped = all_shaped s.nodes s.value.facts L.low x.value.low k.fit wide.low;
+          low = λ e. low_same v s.value.facts L.low x.value.low (k.true_under e) ∙ low_is;
           fits =
               both_of (env_fits L.layer.state given.vars && env_fits L.layer.memory given.memory) (env_fits L.low given.low)
               (both_of (env_fits L.layer.state given.vars) (env_fits L.layer.memory given.memory) t.vars_fit t.memory_fit) t.low_fit;

@@ -1,7 +1,7 @@
 -- The states that a layer's obligations speak of, over terms: fresh inputs, and whether a layer's author relates or settles them.
 use Rattle.std.specs.Prelude.{ℕ, ◌+◌, List, [], ◌∷◌, ◌++◌, map}
 use Rattle.ygg_value.specs.Words.{word}
-use Rattle.ygg_value.specs.declared.operation.Op.TheVariants.{And}
+use Rattle.ygg_value.specs.declared.operation.Op.TheVariants.{And, Eq}
 use Rattle.ygg_syntax.specs.declared.tree.Declared.{Declared}
 use Rattle.ygg_syntax.specs.declared.tree.Expr.{Expr}
 use Rattle.ygg_sym_laws.specs.ygg_meaning.Layer.{ClosedLayer}
@@ -32,6 +32,11 @@ pub record Trio : Type 0 where
   pub memory : List SymValue
   pub low : List SymValue
 
+-- a test, and what it says of inputs
+pub record Under : Type 0 where
+  pub test : Id
+  pub facts : List Replacement
+
 -- terms in the stead of inputs, and in these in turn, so often that what is said of one input by another is followed a few times
 abbrev pub replaced_all : List Replacement → List SymValue → List SymValue
 replaced_all rs = map (λ x. replaced_value rs (replaced_value rs (replaced_value rs x)))
@@ -47,6 +52,19 @@ module _ (kinds : List RuleKind) where
   abbrev pub all_compared : List SymValue → List SymValue → Make Id
   all_compared (x ∷ xs) (y ∷ ys) = and_make (compared kinds x y) (λ a. and_make (all_compared xs ys) (λ rest. made kinds (Bin And a rest)))
   all_compared _ _ = made kinds (Const (word 1 1))
+
+  -- whether each input has the value of the term that stands for it
+  abbrev pub known_made : List Replacement → Make Id
+  known_made [] = made kinds (Const (word 1 1))
+  known_made (r ∷ rs) =
+      and_make (made kinds (Bin Eq r.input r.term)) (λ same. and_make (known_made rs) (λ rest. made kinds (Bin And same rest)))
+
+  -- A test, made anew where what it says of inputs stands in their stead: it is 1 where inputs are as it says, and it is 1 there. Much of what it
+  -- says is plain to see then, and so is much that is to follow from it.
+  abbrev pub under_made : Make Id → (List Replacement → Make Id) → Make Under
+  under_made first again =
+      and_make first (λ said. and_make (facts_in kinds said) (λ facts. and_make (known_made facts) (λ known. and_make (again facts) (λ rest.
+      and_make (made kinds (Bin And known rest)) (λ test. pure (record { test = test; facts = facts }))))))
 
   module _ (terms : SymFunctions) where
     -- whether all of these expressions are 1
@@ -94,12 +112,21 @@ abbrev pub state_words : ClosedLayer → ℕ
 state_words L = words_in L.layer.state + words_in L.layer.memory + words_in L.low
 
 module _ (kinds : List RuleKind) (terms : SymFunctions) (L : ClosedLayer) where
+  -- whether the relation holds of a trio
+  abbrev pub related_under : Trio → Make Under
+  related_under x = under_made kinds (related_made kinds terms L x) (λ rs. related_made kinds terms L (replaced_trio rs x))
+
+  -- whether a state below is settled
+  abbrev pub settled_under : List SymValue → Make Under
+  settled_under low = under_made kinds (settled_made kinds terms L low) (λ rs. settled_made kinds terms L (replaced_all rs low))
+
+  -- the states that the obligations begin with, from their inputs
+  abbrev pub started_made : Trio → Make Starting
+  started_made x =
+      and_make (related_under x) (λ r.
+      and_make (settled_under x.low) (λ s.
+      pure (record { related = r.test; from = replaced_trio r.facts x; settled = s.test; settled_low = replaced_all s.facts x.low })))
+
   -- the states that the obligations begin with, their inputs numbered on from a number
   abbrev pub starting : ℕ → Make Starting
-  starting number =
-      and_make (fresh_trio kinds terms L number) (λ x.
-      and_make (related_made kinds terms L x) (λ related.
-      and_make (facts_in kinds related) (λ facts.
-      and_make (settled_made kinds terms L x.low) (λ settled.
-      and_make (facts_in kinds settled) (λ settling.
-      pure (record { related = related; from = replaced_trio facts x; settled = settled; settled_low = replaced_all settling x.low }))))))
+  starting number = and_make (fresh_trio kinds terms L number) started_made
