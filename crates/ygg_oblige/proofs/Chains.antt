@@ -1,6 +1,6 @@
 -- Obligations' terms, step by step.
 use Rattle.std.proofs.Common.{◌≡◌, List, [], Option}
-use Rattle.ygg_value.specs.declared.operation.Op.TheVariants.{And, Imp}
+use Rattle.ygg_value.specs.declared.operation.Op.TheVariants.{And}
 use Rattle.ygg_syntax.specs.declared.tree.Block.{Block}
 use Rattle.ygg_syntax.specs.declared.tree.Declared.{Declared}
 use Rattle.ygg_oblige_parts.specs.ygg_rules.declared.rule.RuleKind.{RuleKind}
@@ -12,6 +12,7 @@ use Rattle.ygg_oblige_parts.specs.ygg_bank.declared.node.Node.TheVariants.{Bin}
 use Rattle.ygg_oblige_parts.specs.ygg_shape_cells.declared.terms.SymValue.{SymValue}
 use Rattle.ygg_oblige_parts.specs.ygg_sym_runs.StopTerms.{SymFallen}
 use Rattle.ygg_oblige_laws.specs.ygg_sym_runs.Means.{values_in}
+use Rattle.ygg_oblige_parts.specs.ygg_oblige_laws.Implied.{implied_made}
 use Rattle.ygg_oblige_parts.specs.ygg_oblige_laws.Terms.{Finish}
 
 -- a run over values that another step made, without arguments
@@ -29,8 +30,8 @@ pub runs_from : (kinds : List RuleKind) (R : Block → List Declared → Out Fin
     (related : Id) (b c : Block) (ds es : List Declared) (answer : Option SymValue) (memory low : List SymValue) (some : Id) (one two : List Node) →
     b ≡ c → ds ≡ es → answer ≡ (R b ds).value.answer → memory ≡ values_in (R b ds).value.vars → low ≡ (R b ds).value.to → one ≡ (R b ds).nodes →
     some ≡ (p answer memory low one).value → two ≡ (p answer memory low one).nodes →
-    made kinds (Bin Imp related some) two
-    ≡ goes_on (R c es) (λ end. and_make (p end.answer (values_in end.vars) end.to) (λ some. made kinds (Bin Imp related some)))
+    implied_made kinds related some two
+    ≡ goes_on (R c es) (λ end. and_make (p end.answer (values_in end.vars) end.to) (λ some. implied_made kinds related some))
 runs_from kinds R p related b c ds es answer memory low some one two e f h i j k m n = cc
 
 -- a run that power cuts, and what comes after it
@@ -52,8 +53,8 @@ end_from E k answer memory low one a b c d = cc
 pub woken_from : (kinds : List RuleKind) (s p : Make Id) (hypothesis side some conclusion : Id) (old two three four : List Node) →
     side ≡ (s old).value → two ≡ (s old).nodes → some ≡ (p two).value → three ≡ (p two).nodes →
     conclusion ≡ (made kinds (Bin And side some) three).value → four ≡ (made kinds (Bin And side some) three).nodes →
-    made kinds (Bin Imp hypothesis conclusion) four
-    ≡ goes_on (s old) (λ side. and_make p (λ some. and_make (made kinds (Bin And side some)) (λ conclusion. made kinds (Bin Imp hypothesis conclusion))))
+    implied_made kinds hypothesis conclusion four
+    ≡ goes_on (s old) (λ side. and_make p (λ some. and_make (made kinds (Bin And side some)) (λ conclusion. implied_made kinds hypothesis conclusion)))
 woken_from kinds s p hypothesis side some conclusion old two three four a b c d e f = cc
 
 -- two comparisons, joined
@@ -83,8 +84,8 @@ left_from C k fallen reached one a b c = cc
 pub again_from : (kinds : List RuleKind) (a : Make Id) (settled reached conclusion hypothesis : Id) (old two three : List Node) →
     conclusion ≡ (a old).value → two ≡ (a old).nodes →
     hypothesis ≡ (made kinds (Bin And settled reached) two).value → three ≡ (made kinds (Bin And settled reached) two).nodes →
-    made kinds (Bin Imp hypothesis conclusion) three
-    ≡ goes_on (a old) (λ conclusion. and_make (made kinds (Bin And settled reached)) (λ hypothesis. made kinds (Bin Imp hypothesis conclusion)))
+    implied_made kinds hypothesis conclusion three
+    ≡ goes_on (a old) (λ conclusion. and_make (made kinds (Bin And settled reached)) (λ hypothesis. implied_made kinds hypothesis conclusion))
 again_from kinds a settled reached conclusion hypothesis old two three b c d e = cc
 
 -- a whole run from a state below that another step made, without arguments, and the step after it

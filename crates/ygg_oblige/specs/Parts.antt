@@ -1,6 +1,6 @@
 -- Parts of obligations' terms, as code makes them.
 use Rattle.std.specs.Prelude.{List, [], Option}
-use Rattle.ygg_value.specs.declared.operation.Op.TheVariants.{And, Imp}
+use Rattle.ygg_value.specs.declared.operation.Op.TheVariants.{And}
 use Rattle.ygg_oblige_parts.specs.ygg_meaning.Obligations.{Obligation, Idle}
 use Rattle.ygg_oblige_parts.specs.ygg_rules.declared.rule.RuleKind.{RuleKind}
 use Rattle.ygg_oblige_parts.specs.ygg_bank.Makes.{Make, and_make}
@@ -18,6 +18,7 @@ use Rattle.ygg_sym.specs.ygg_sym_spec.declared.below.SymBelow.{SymBelow}
 use Rattle.ygg_sym.specs.declared.runs.SymEnd.{SymEnd}
 use Rattle.ygg_oblige_parts.specs.ygg_oblige_laws.Numbers.{Numbers, arguments_of, block_of}
 use Rattle.ygg_oblige_parts.specs.ygg_oblige_laws.TermStates.{Starting, fresh_all, all_compared, settled_made}
+use Rattle.ygg_oblige_parts.specs.ygg_oblige_laws.Implied.{implied_made}
 use Rattle.ygg_oblige_parts.specs.ygg_oblige_laws.Terms.{cut_short, falls_through, recovered, recovers, runs_through}
 use Rattle.ygg_oblige_parts.specs.Passing.{some_in}
 
@@ -71,14 +72,14 @@ module _ (kinds : List RuleKind) (l : SymLayer) (g : SymBelow) where
   abbrev pub again_after : Numbers → Id → List SymValue → List SymValue → Id → Make Id
   again_after n settled low fallen reached =
       and_make (recovers_alike n low fallen) (λ conclusion.
-      and_make (made kinds (Bin And settled reached)) (λ hypothesis. made kinds (Bin Imp hypothesis conclusion)))
+      and_make (made kinds (Bin And settled reached)) (λ hypothesis. implied_made kinds hypothesis conclusion))
 
   -- the base that a recovery began with is settled, and the recovery's end passes
   abbrev pub woken : Obligation → Id → List SymValue → List SymValue → List SymValue → Option SymValue → List SymValue → List SymValue → Make Id
   woken o hypothesis vars args fallen answer memory low =
       and_make (settled_made kinds (terms_in kinds l) (closed l) fallen) (λ side.
       and_make (some_in kinds (terms_in kinds l) (closed l) o vars args answer memory low) (λ some.
-      and_make (made kinds (Bin And side some)) (λ conclusion. made kinds (Bin Imp hypothesis conclusion))))
+      and_make (made kinds (Bin And side some)) (λ conclusion. implied_made kinds hypothesis conclusion)))
 
   -- power loss between operations, and a recovery
   abbrev pub idles : Numbers → Starting → Make Id

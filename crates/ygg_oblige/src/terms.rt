@@ -34,7 +34,8 @@ ghost use Rattle.ygg_oblige.specs.Parts.{
 use crate::numbers::{arguments_of, block_of};
 use ygg_oblige_list::{SymNumbers, SymObligation};
 use ygg_oblige_parts::{
-    Bank, Book, Id, Maker, NoMemory, SymStarting, SymStep, SymValues, all_equal, fresh, join, zeros,
+    Bank, Book, Id, Maker, NoMemory, SymStarting, SymStep, SymValues, all_equal, fresh, implied,
+    join, zeros,
 };
 use ygg_sym::{SymBlock, SymCut, SymEnd, cut, lost, low_at_start, run};
 use ygg_syntax::lists;
@@ -144,7 +145,7 @@ fn woken<'a, B: Book>(
     let side = maker.settled(bank, fallen)?;
     let some = passes_after(maker, bank, obligation, vars, args, end, first)?;
     let conclusion = join(bank, maker.book, Op::And, side, some)?;
-    join(bank, maker.book, Op::Imp, hypothesis, conclusion)
+    implied(bank, maker.book, hypothesis, conclusion)
 }
 
 /// After power has failed and left this, where the hypothesis is this: the base is settled, and a recovery ends in a state that passes.
@@ -212,7 +213,7 @@ fn runs_through<'a, B: Book>(
         &from.low,
     )?;
     let some = passes_after(maker, bank, obligation, &from.vars, args, &end, n.run)?;
-    join(bank, maker.book, Op::Imp, s.related, some)
+    implied(bank, maker.book, s.related, some)
 }
 
 /// A run of the obligation's block that power cuts, and a recovery.
@@ -455,7 +456,7 @@ fn again_after<'a, B: Book>(
 {
     let conclusion = recovers_alike(maker, bank, n, low, &left.fallen)?;
     let hypothesis = join(bank, maker.book, Op::And, settled, left.reached)?;
-    join(bank, maker.book, Op::Imp, hypothesis, conclusion)
+    implied(bank, maker.book, hypothesis, conclusion)
 }
 
 /// A recovery that power cuts, another after it, and one whole recovery from the first base.

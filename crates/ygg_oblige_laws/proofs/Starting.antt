@@ -64,7 +64,7 @@ use Rattle.ygg_oblige_laws.specs.States.{RelatedIs, SettledIs, given_stand, Star
 use Rattle.ygg_oblige_laws.specs.Worth.{TrioShaped, Stand, trio_worth}
 
 -- values with terms in the stead of inputs keep their shapes
-all_shaped : (nodes : List Node) (rs : List Replacement) (ds : List Declared) (xs : List SymValue) → AreFit nodes rs → LowShaped nodes ds xs →
+pub all_shaped : (nodes : List Node) (rs : List Replacement) (ds : List Declared) (xs : List SymValue) → AreFit nodes rs → LowShaped nodes ds xs →
     LowShaped nodes ds (replaced_all rs xs)
 all_shaped nodes rs [] [] f p = tt
 all_shaped nodes rs [] (x ∷ xs) f p = absurd p
@@ -79,6 +79,21 @@ all_shaped nodes rs (d ∷ ds) (x ∷ xs) f p =
       },
       all_shaped nodes rs ds xs f p.1,
     )
+
+pub trio_shaped : (L : ClosedLayer) (nodes : List Node) (rs : List Replacement) (x : Trio) → AreFit nodes rs → TrioShaped L nodes x →
+    TrioShaped L nodes (replaced_trio rs x)
+trio_shaped L nodes rs x f s = record {
+  vars = all_shaped nodes rs L.layer.state x.vars f s.vars;
+  memory = all_shaped nodes rs L.layer.memory x.memory f s.memory;
+  low = all_shaped nodes rs L.low x.low f s.low;
+}
+
+pub trio_wider : (L : ClosedLayer) (old new : List Node) (x : Trio) → Extends old new → TrioShaped L old x → TrioShaped L new x
+trio_wider L old new x g s = record {
+  vars = low_wider old new L.layer.state x.vars g s.vars;
+  memory = low_wider old new L.layer.memory x.memory g s.memory;
+  low = low_wider old new L.low x.low g s.low;
+}
 
 -- where the terms have their inputs' values, they are worth what they were
 all_worth : (v : Values) (rs : List Replacement) (xs : List SymValue) → AreTrue v rs → map (worth v) (replaced_all rs xs) ≡ map (worth v) xs
@@ -256,21 +271,7 @@ module _ (kinds : List RuleKind) (defs : List Def) (G : Below) (L : ClosedLayer)
           low_fit = given_fits inputs v kinds (at_low number) low y.nodes typed.low_shapes by h;
         }
 
-    trio_wider : (old new : List Node) (x : Trio) → Extends old new → TrioShaped L old x → TrioShaped L new x
-    trio_wider old new x g s = record {
-      vars = low_wider old new L.layer.state x.vars g s.vars;
-      memory = low_wider old new L.layer.memory x.memory g s.memory;
-      low = low_wider old new L.low x.low g s.low;
-    }
-
-    -- a trio with terms in the stead of inputs: its shapes, and what it is worth where the inputs are as the terms say
-    trio_shaped : (nodes : List Node) (rs : List Replacement) (x : Trio) → AreFit nodes rs → TrioShaped L nodes x → TrioShaped L nodes (replaced_trio rs x)
-    trio_shaped nodes rs x f s = record {
-      vars = all_shaped nodes rs L.layer.state x.vars f s.vars;
-      memory = all_shaped nodes rs L.layer.memory x.memory f s.memory;
-      low = all_shaped nodes rs L.low x.low f s.low;
-    }
-
+    -- what a trio with terms in the stead of inputs is worth, where the inputs are as the terms say
     trio_same : (rs : List Replacement) (x : Trio) → AreTrue v rs → trio_worth v L (replaced_trio rs x) ≡ trio_worth v L x
     trio_same rs x a =
         ap (λ z. let s : Stand = record {
@@ -293,8 +294,8 @@ module _ (kinds : List RuleKind) (defs : List Def) (G : Below) (L : ClosedLayer)
         under_gives inputs v kinds (related_made kinds terms L x) (λ rs. related_made kinds terms L (replaced_trio rs x)) nodes (related_grows x)
         (λ rs. related_grows (replaced_trio rs x)) (λ h. let r = related_gives inputs v kinds defs G L typed x nodes shaped h in r.wide)
         (λ rs new fit g first h.
-        let wide = trio_wider nodes new x (extends_both nodes (related_made kinds terms L x nodes).nodes new (related_grows x nodes) g) shaped in
-        let a = related_gives inputs v kinds defs G L typed (replaced_trio rs x) new (trio_shaped new rs x fit wide) h in
+        let wide = trio_wider L nodes new x (extends_both nodes (related_made kinds terms L x nodes).nodes new (related_grows x nodes) g) shaped in
+        let a = related_gives inputs v kinds defs G L typed (replaced_trio rs x) new (trio_shaped L new rs x fit wide) h in
         let b = related_gives inputs v kinds defs G L typed x nodes shaped first in
         record {
           wide = a.wide;
@@ -336,10 +337,10 @@ module _ (kinds : List RuleKind) (defs : List Def) (G : Below) (L : ClosedLayer)
         (settled_gives inputs v kinds defs G L typed x.value.low r.nodes low_shaped hg) in
         let f = related_so x.value x.nodes t.shaped hr in
         let k = settled_so x.value.low r.nodes low_shaped h in
-        let wide = trio_wider x.nodes s.nodes x.value all t.shaped in
+        let wide = trio_wider L x.nodes s.nodes x.value all t.shaped in
         record {
           related = record { wide = wider r.nodes s.nodes r.value.test 1 gs f.wide; relates = f.same ∙ p.relates; related = f.same ∙ p.related };
-          from_shaped = trio_shaped s.nodes r.value.facts x.value (facts_wider r.nodes s.nodes r.value.facts gs f.fit) wide;
+          from_shaped = trio_shaped L s.nodes r.value.facts x.value (facts_wider r.nodes s.nodes r.value.facts gs f.fit) wide;
           from = λ e. trio_same r.value.facts x.value (f.true_under e) ∙ t.is;
           settled = record { wide = k.wide; settles = k.same ∙ q.settles; settled = k.same ∙ q.settled };
           low_shaped = all_shaped s.nodes s.value.facts L.low x.value.low k.fit wide.low;

@@ -31,7 +31,7 @@ use Rattle.ygg_sym_laws.specs.ygg_sym_runs_proofs_Keeps.{Keeps}
 use Rattle.ygg_sym_laws.specs.Meaning.{is_set}
 use Rattle.ygg_oblige_laws.specs.TermStates.{Under, known_made, under_made}
 use Rattle.ygg_oblige_laws.specs.Worth.{IsTruth}
-use Rattle.ygg_oblige_laws.proofs.Truth.{adds, one_word, none_word, truth_of, truth_wider, one_gives, and_gives}
+use Rattle.ygg_oblige_laws.proofs.Truth.{adds, one_word, none_word, truth_of, one_gives, and_gives}
 use Rattle.ygg_oblige_laws.proofs.Digits.{both_true, both_hold}
 
 -- facts fit among more nodes
@@ -49,9 +49,9 @@ module _ (kinds : List RuleKind) (P : List Node → Type 0) (stays : Stays kinds
   known_keep : (rs : List Replacement) → Keeps P (known_made kinds rs)
   known_keep [] nodes p = stays (Const (word 1 1)) nodes tt p
   known_keep (r ∷ rs) nodes p =
-      let e = made kinds (Bin Eq r.input r.term) nodes in
-      let k = known_made kinds rs e.nodes in
-      stays (Bin And e.value k.value) k.nodes tt (known_keep rs e.nodes (stays (Bin Eq r.input r.term) nodes tt p))
+      let k = known_made kinds rs nodes in
+      let e = made kinds (Bin Eq r.input r.term) k.nodes in
+      stays (Bin And e.value k.value) e.nodes tt (stays (Bin Eq r.input r.term) k.nodes tt (known_keep rs nodes p))
 
   pub under_keep : (first : Make Id) (again : List Replacement → Make Id) → Keeps P first → ((rs : List Replacement) → Keeps P (again rs)) →
       Keeps P (under_made kinds first again)
@@ -115,26 +115,24 @@ module _ (inputs : Inputs) (v : Values) (kinds : List RuleKind) where
       let P : Replacement → Type 0 = λ r. v r.input.0 ≡ v r.term.0 in
       let W : Replacement → Type 0 = λ r. WordsAlike nodes r.input r.term in
       let n = Bin Eq r.input r.term in
-      let e = made kinds n nodes in
-      let k = known_made kinds rs e.nodes in
-      let o = made kinds (Bin And e.value k.value) k.nodes in
-      let ge = made_grows kinds n nodes in
-      let gk = known_grows kinds rs e.nodes in
-      let hk = fits_fewer inputs v k.nodes o.nodes (made_grows kinds (Bin And e.value k.value) k.nodes) h in
-      let he = fits_fewer inputs v e.nodes k.nodes gk hk in
-      let hn = fits_fewer inputs v nodes e.nodes ge he in
-      let w = All-head W r rs f in
-      let m = made_is inputs v kinds n nodes (can_equal nodes r.input r.term w.width w.one_has w.two_has) he in
+      let k = known_made kinds rs nodes in
+      let e = made kinds n k.nodes in
+      let o = made kinds (Bin And e.value k.value) e.nodes in
+      let ge = made_grows kinds n k.nodes in
+      let he = fits_fewer inputs v e.nodes o.nodes (made_grows kinds (Bin And e.value k.value) e.nodes) h in
+      let hk = fits_fewer inputs v k.nodes e.nodes ge he in
+      let w = alike_wider nodes k.nodes r.input r.term (known_grows kinds rs nodes) (All-head W r rs f) in
+      let m = made_is inputs v kinds n k.nodes (can_equal k.nodes r.input r.term w.width w.one_has w.two_has) he in
       let c = (v r.input.0).bits == (v r.term.0).bits in
       let here : IsTruth v c e.nodes e.value = truth_of inputs v e.nodes c e.value (record { wide = m.wide; is = m.is }) in
-      let rest = known_gives rs e.nodes (facts_wider nodes e.nodes rs ge (All-tail W r rs f)) hk in
-      let t = and_gives inputs v kinds e.value k.value c (is_set v k.value) k.nodes (truth_wider v e.nodes k.nodes c e.value gk here)
-      (record { wide = rest.wide; is = refl }) h in
+      let rest = known_gives rs nodes (All-tail W r rs f) hk in
+      let t = and_gives inputs v kinds e.value k.value c (is_set v k.value) e.nodes here
+      (record { wide = wider k.nodes e.nodes k.value 1 ge rest.wide; is = refl }) h in
       record {
         wide = t.wide;
         are = λ s.
             let both = both_true c (is_set v k.value) (sym t.is ∙ s) in
-            let widths = hn.widths r.input.0 w.width w.one_has ∙ sym (hn.widths r.term.0 w.width w.two_has) in
+            let widths = hk.widths r.input.0 w.width w.one_has ∙ sym (hk.widths r.term.0 w.width w.two_has) in
             let numbers = (Decides-eqb (v r.input.0).bits (v r.term.0).bits).0 both.0 in
             All-cons P r rs (ap (λ z. word z (v r.input.0).bits) widths ∙ ap (word (v r.term.0).width) numbers) (rest.are both.1);
         holds = λ all.

@@ -10,4 +10,4 @@ use Rattle.ygg_sym_laws.specs.ygg_bank.declared.node.Node.TheVariants.{Bin, Not}
 -- whether the second test is 1 where the first is: it is never so that the first is 1 and the second isn't. The rules see through these nodes.
 abbrev pub implied_made : List RuleKind → Id → Id → Make Id
 implied_made kinds a b =
-    and_make (made kinds (Not b)) (λ no. and_make (made kinds (Bin And a no)) (λ broken. made kinds (Not broken)))
+    and_make (made kinds (Not b)) (λ other. and_make (made kinds (Bin And a other)) (λ broken. made kinds (Not broken)))

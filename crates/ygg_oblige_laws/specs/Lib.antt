@@ -22,6 +22,7 @@ pub use Rattle.ygg_sym_laws.specs.ygg_bank_proofs_Meaning
 pub use Rattle.ygg_sym_laws.specs.ygg_bank_proofs_Widths
 pub use Rattle.ygg_sym_laws.specs.ygg_bank
 pub use Rattle.ygg_sym_laws.specs.ygg_rules
+pub use Rattle.ygg_sym_laws.specs.ygg_shape_words
 pub use Rattle.ygg_sym_laws.specs.ygg_shape
 pub use Rattle.ygg_sym_laws.specs.ygg_shape_cells
 pub use Rattle.ygg_sym_laws.specs.ygg_sym_runs_proofs_Lows

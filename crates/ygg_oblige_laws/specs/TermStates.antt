@@ -57,7 +57,7 @@ module _ (kinds : List RuleKind) where
   abbrev pub known_made : List Replacement → Make Id
   known_made [] = made kinds (Const (word 1 1))
   known_made (r ∷ rs) =
-      and_make (made kinds (Bin Eq r.input r.term)) (λ same. and_make (known_made rs) (λ rest. made kinds (Bin And same rest)))
+      and_make (known_made rs) (λ rest. and_make (made kinds (Bin Eq r.input r.term)) (λ same. made kinds (Bin And same rest)))
 
   -- A test, made anew where what it says of inputs stands in their stead: it is 1 where inputs are as it says, and it is 1 there. Much of what it
   -- says is plain to see then, and so is much that is to follow from it.

@@ -1,9 +1,16 @@
 -- Terms of one digit.
-use Rattle.std.proofs.Common.{◌≡◌, ◌<◌, ℕ, List, refl, sym, ap, ◌∙◌, arith}
+use Rattle.std.proofs.Common.{◌≡◌, ◌<◌, ◌+◌, ℕ, List, ◌∷◌, length, drop, get_or, refl, sym, ap, ◌∙◌, arith}
 use Rattle.ygg_value.specs.Number.{IsWord}
 use Rattle.ygg_value.specs.Words.{word, result_width, CanApply}
 use Rattle.ygg_value.specs.declared.operation.Op.{Op}
 use Rattle.ygg_value.specs.declared.operation.Op.TheVariants.{Add, Sub, Mul, And, Or, Xor, Shl, Shr, Eq, Ne, Lt, Le, Gt, Ge, Imp}
+use Rattle.ygg_sym_spec.specs.ygg_rules.declared.rule.RuleKind.{RuleKind}
+use Rattle.ygg_sym_spec.specs.ygg_bank.Making.{made}
+use Rattle.ygg_sym_spec.specs.ygg_bank.declared.node.Node.TheVariants.{Bin, Not}
+use Rattle.ygg_sym_spec.proofs.Left.{rest_is}
+use Rattle.ygg_oblige_laws.specs.ygg_shape.declared.replacing.Replacement.{Replacement}
+use Rattle.ygg_oblige_laws.specs.Implied.{implied_made}
+use Rattle.ygg_oblige_laws.specs.TermStates.{known_made}
 use Rattle.ygg_sym_spec.specs.ygg_bank_proofs_Widths.{width_is, stands}
 use Rattle.ygg_sym_spec.specs.ygg_bank.Nodes.{CanBin, HasWidth, widths_of, width_at}
 use Rattle.ygg_sym_spec.specs.ygg_bank.declared.node.Id.{Id}
@@ -58,3 +65,19 @@ can_join nodes op a b p q = record {
 
 pub joined_width : (nodes : List Node) (op : Op) (a : Id) → HasWidth nodes a 1 → result_width op (width_at (widths_of nodes) a) ≡ 1
 joined_width nodes op a p = ap (result_width op) (width_is nodes a 1 p) ∙ digit_wide op
+
+-- a test that is implied by another, step by step
+pub implied_from : (kinds : List RuleKind) (a b other broken : Id) (old one two : List Node) → other ≡ (made kinds (Not b) old).value →
+    one ≡ (made kinds (Not b) old).nodes → broken ≡ (made kinds (Bin And a other) one).value → two ≡ (made kinds (Bin And a other) one).nodes →
+    made kinds (Not broken) two ≡ implied_made kinds a b old
+implied_from kinds a b other broken old one two p q r s = cc
+
+-- one input more that is known, before those that were joined
+pub known_more : (kinds : List RuleKind) (rs : List Replacement) (old : List Node) (i j : ℕ) (r d : Replacement) (same known : Id) (now next : List Node) →
+    i < length rs → j ≡ i + 1 → r ≡ get_or rs i d → now ≡ (known_made kinds (drop j rs) old).nodes → known ≡ (known_made kinds (drop j rs) old).value →
+    same ≡ (made kinds (Bin Eq r.input r.term) now).value → next ≡ (made kinds (Bin Eq r.input r.term) now).nodes →
+    made kinds (Bin And same known) next ≡ known_made kinds (drop i rs) old
+known_more kinds rs old i j r d same known now next l e f p q s t =
+    let rest = rest_is rs i r d l f in
+    let so : made kinds (Bin And same known) next ≡ known_made kinds (r ∷ drop j rs) old = cc in
+    so ∙ ap (λ k. known_made kinds (r ∷ drop k rs) old) e ∙ ap (λ z. known_made kinds z old) (sym rest)

@@ -17,24 +17,44 @@ use Rattle.ygg_oblige_laws.specs.ygg_shape.declared.replacing.Replacement.{Repla
 use Rattle.ygg_sym_spec.specs.ygg_sym_runs.Exprs.{SymFunctions}
 use Rattle.ygg_oblige_laws.specs.Means.{terms_of}
 use Rattle.ygg_oblige_laws.specs.LayerTerms.{LayerTyped}
-use Rattle.ygg_oblige_laws.specs.TermStates.{Trio, Starting, fresh_all, fresh_trio, replaced_all, replaced_trio, starting, words_in}
+use Rattle.ygg_oblige_laws.specs.TermStates.{
+  Trio,
+  Under,
+  Starting,
+  fresh_all,
+  fresh_trio,
+  replaced_all,
+  replaced_trio,
+  started_made,
+  starting,
+  words_in,
+}
 use Rattle.ygg_oblige_laws.proofs.Starting.{states_mean}
-use Rattle.ygg_oblige_parts.specs.Makers.{StartingShaped, started_made}
+use Rattle.ygg_oblige_parts.specs.Makers.{StartingShaped}
+
+-- a test made anew, where each step went as it is defined to
+pub under_from : {A : Type 0} (f : Id → Make (List Replacement)) (k : List Replacement → Make Id) (g : A → Make Id) (r : List Replacement → A)
+    (j : Id → Id → Make Id) (F : Out Id) (said known rest test : Id) (facts : List Replacement) (y : A) (one two three four five : List Node) →
+    said ≡ F.value → one ≡ F.nodes → facts ≡ (f said one).value → two ≡ (f said one).nodes → y ≡ r facts → known ≡ (k facts two).value →
+    three ≡ (k facts two).nodes → rest ≡ (g y three).value → four ≡ (g y three).nodes → test ≡ (j known rest four).value →
+    five ≡ (j known rest four).nodes →
+    (let O : Out Under = record { value = record { test = test; facts = facts }; nodes = five } in O)
+    ≡ goes_on F (λ said. and_make (f said) (λ facts. and_make (k facts) (λ known. and_make (g (r facts)) (λ rest.
+    and_make (j known rest) (λ test. pure (let U : Under = record { test = test; facts = facts } in U))))))
+under_from f k g r j F said known rest test facts y one two three four five a b c d e h i l m n o = cc
 
 -- what is made of steps, where each went as it is defined to
-pub started_from : (R : Out Id) (f : Id → Make (List Replacement)) (s : Make Id) (x : Trio) (related settled : Id)
-    (one two three last : List Node) (from : Trio) (low : List SymValue) → related ≡ R.value → one ≡ R.nodes →
-    from ≡ replaced_trio (f related one).value x → two ≡ (f related one).nodes → settled ≡ (s two).value → three ≡ (s two).nodes →
-    low ≡ replaced_all (f settled three).value x.low → last ≡ (f settled three).nodes →
+pub started_from : (R : Out Under) (s : Make Under) (x : Trio) (related settled : Id) (one last : List Node) (from : Trio) (low : List SymValue) →
+    related ≡ R.value.test → one ≡ R.nodes → from ≡ replaced_trio R.value.facts x → settled ≡ (s one).value.test → last ≡ (s one).nodes →
+    low ≡ replaced_all (s one).value.facts x.low →
     (let O : Out Starting = record { value = record { related = related; from = from; settled = settled; settled_low = low }; nodes = last } in O)
-    ≡ goes_on R (λ related. and_make (f related) (λ facts. and_make s (λ settled. and_make (f settled) (λ settling.
-    pure (let S : Starting = record {
-      related = related;
-      from = replaced_trio facts x;
-      settled = settled;
-      settled_low = replaced_all settling x.low;
-    } in S)))))
-started_from R f s x related settled one two three last from low a b c d e g h i = cc
+    ≡ goes_on R (λ r. and_make s (λ q. pure (let S : Starting = record {
+      related = r.test;
+      from = replaced_trio r.facts x;
+      settled = q.test;
+      settled_low = replaced_all q.facts x.low;
+    } in S)))
+started_from R s x related settled one last from low a b c d e f = cc
 
 module _ (kinds : List RuleKind) (terms : SymFunctions) (L : ClosedLayer) where
   -- a trio of inputs, where each step went as it is defined to

@@ -1,19 +1,15 @@
 -- A layer whose obligations' terms are made, and the states that they begin with.
 use Rattle.std.specs.Prelude.{List}
 use Rattle.ygg_sym_spec.specs.ygg_meaning.Layer.{ClosedLayer}
-use Rattle.ygg_sym_spec.specs.ygg_rules.declared.rule.RuleKind.{RuleKind}
-use Rattle.ygg_sym_spec.specs.ygg_bank.Makes.{Make, pure, and_make}
 use Rattle.ygg_sym_spec.specs.ygg_bank.Nodes.{HasWidth}
 use Rattle.ygg_sym_spec.specs.ygg_bank.declared.node.Node.{Node}
-use Rattle.ygg_oblige_laws.specs.ygg_shape.Finding.{facts_in}
-use Rattle.ygg_sym_spec.specs.ygg_sym_runs.Exprs.{SymFunctions}
 use Rattle.ygg_sym_spec.specs.ygg_sym_runs.Lows.{LowShaped}
 use Rattle.ygg_sym_spec.specs.Layers.{closed}
 use Rattle.ygg_sym_spec.specs.declared.layer.SymLayer.{SymLayer}
 use Rattle.ygg_sym_spec.specs.Sites.{below_in}
 use Rattle.ygg_sym_spec.specs.declared.below.SymBelow.{SymBelow}
 use Rattle.ygg_oblige_laws.specs.LayerTerms.{LayerTyped}
-use Rattle.ygg_oblige_laws.specs.TermStates.{Trio, Starting, related_made, settled_made, replaced_trio, replaced_all}
+use Rattle.ygg_oblige_laws.specs.TermStates.{Trio, Starting}
 use Rattle.ygg_oblige_laws.specs.Worth.{TrioShaped}
 use Rattle.ygg_oblige_parts.specs.declared.states.SymTrio.{SymTrio}
 use Rattle.ygg_oblige_parts.specs.declared.states.SymStarting.{SymStarting}
@@ -36,13 +32,3 @@ pub record StartingShaped (L : ClosedLayer) (nodes : List Node) (S : Starting) :
   pub from : TrioShaped L nodes S.from
   pub settled : HasWidth nodes S.settled 1
   pub low : LowShaped nodes L.low S.settled_low
-
-module _ (kinds : List RuleKind) (terms : SymFunctions) (L : ClosedLayer) where
-  -- the states that obligations begin with, from their inputs
-  abbrev pub started_made : Trio → Make Starting
-  started_made x =
-      and_make (related_made kinds terms L x) (λ related.
-      and_make (facts_in kinds related) (λ facts.
-      and_make (settled_made kinds terms L x.low) (λ settled.
-      and_make (facts_in kinds settled) (λ settling.
-      pure (record { related = related; from = replaced_trio facts x; settled = settled; settled_low = replaced_all settling x.low })))))

@@ -10,7 +10,7 @@ mod passing;
 mod states;
 
 pub use comparing::all_equal;
-pub use digits::join;
+pub use digits::{implied, join};
 pub use names::fresh;
 pub use passing::SymStep;
 pub use states::{Maker, SymStarting, SymTrio};

@@ -8,22 +8,24 @@ ghost use Rattle.ygg_sym_spec.specs.ygg_sym_runs.Lows.{LowShaped};
 ghost use Rattle.ygg_sym_spec.specs.ygg_sym_runs.Seen.{env_of};
 ghost use Rattle.ygg_sym_spec.specs.ygg_sym_runs.Lower.{KeepsSingle};
 ghost use Rattle.ygg_sym_spec.specs.Layers.{closed, terms_in};
-ghost use Rattle.ygg_oblige_laws.specs.ygg_shape.Finding.{facts_in};
 ghost use Rattle.ygg_oblige_laws.specs.ygg_shape.Replacing.{replaced_value};
 ghost use Rattle.ygg_oblige_laws.specs.TermStates.{
   fresh_trio,
   related_made,
+  related_under,
   replaced_all,
   replaced_trio,
   settled_made,
+  settled_under,
+  started_made,
   starting,
   state_words,
 };
 ghost use Rattle.ygg_oblige_laws.specs.Worth.{TrioShaped};
 ghost use Rattle.ygg_oblige_parts.specs.Formulas.{CanTest, seen, truths_in};
-ghost use Rattle.ygg_oblige_parts.specs.Makers.{LayerFits, StartingShaped, started_made, starting_of, trio_of};
+ghost use Rattle.ygg_oblige_parts.specs.Makers.{LayerFits, StartingShaped, starting_of, trio_of};
 
-use crate::digits::join;
+use crate::digits::{join, known};
 use crate::formulas::{digit, truths};
 use crate::names::{add_names, fresh};
 use std::alloc::Global;
@@ -137,40 +139,20 @@ fn replaced_trio(
     })
 }
 
-/// The states with what a term says of their inputs, where it is 1, put in the inputs' stead.
-fn trio_under<B: Book>(
-    alloc: Global,
-    bank: &mut Bank,
-    book: &B,
-    known: Id,
-    x: &SymTrio,
-) -> Result<SymTrio, NoMemory>
-    requires { HasWidth bank.old known 1 }
-    ensures nodes { OnOk result (bank.new ≡ (facts_in (B.kinds book.now) known bank.old).nodes) }
-    ensures form { IfOk result (λ y. trio_of y ≡ replaced_trio (facts_in (B.kinds book.now) known bank.old).value (trio_of x.now)) }
-    ensures grows { Extends bank.old bank.new }
-    ensures bank { IsBank bank.new }
-{
-    let replacements = facts(alloc, bank, book, known)?;
-    replaced_trio(alloc, &replacements, x)
+/// Whether the layer's relation holds of its inputs, and the states with what it says of them in their stead.
+struct SymRelated {
+    /// The test.
+    test: Id,
+    /// The states.
+    from: SymTrio,
 }
 
-/// The values with what a term says of their inputs, where it is 1, put in the inputs' stead.
-fn values_under<B: Book>(
-    alloc: Global,
-    bank: &mut Bank,
-    book: &B,
-    known: Id,
-    values: &SymValues,
-) -> Result<SymValues, NoMemory>
-    requires { HasWidth bank.old known 1 }
-    ensures nodes { OnOk result (bank.new ≡ (facts_in (B.kinds book.now) known bank.old).nodes) }
-    ensures form { IfOk result (λ xs. xs ≡ replaced_all (facts_in (B.kinds book.now) known bank.old).value values.now) }
-    ensures grows { Extends bank.old bank.new }
-    ensures bank { IsBank bank.new }
-{
-    let replacements = facts(alloc, bank, book, known)?;
-    replaced_all(alloc, &replacements, values)
+/// Whether the state below is settled, and that state with what this says of its inputs in their stead.
+struct SymSettled {
+    /// The test.
+    test: Id,
+    /// The state below.
+    low: SymValues,
 }
 
 impl<'a, B: Book> Maker<'a, B> {
@@ -298,6 +280,50 @@ impl<'a, B: Book> Maker<'a, B> {
         self.started(bank, &x)
     }
 
+    /// Whether the layer's relation holds of these inputs, made anew where what it says of them stands in their stead.
+    fn related_under(&self, bank: &mut Bank, x: &SymTrio) -> Result<SymRelated, NoMemory>
+        requires layer { LayerFits self.now.layer self.now.below }
+        requires shaped { TrioShaped (closed self.now.layer) bank.old (trio_of x.now) }
+        ensures nodes { OnOk result (bank.new ≡ (related_under (B.kinds self.now.book.now) (terms_in (B.kinds self.now.book.now) self.now.layer)
+            (closed self.now.layer) (trio_of x.now) bank.old).nodes) }
+        ensures test { IfOk result (λ r. r.test ≡ (related_under (B.kinds self.now.book.now) (terms_in (B.kinds self.now.book.now) self.now.layer)
+            (closed self.now.layer) (trio_of x.now) bank.old).value.test) }
+        ensures from { IfOk result (λ r. trio_of r.from ≡ replaced_trio (related_under (B.kinds self.now.book.now)
+            (terms_in (B.kinds self.now.book.now) self.now.layer) (closed self.now.layer) (trio_of x.now) bank.old).value.facts (trio_of x.now)) }
+        ensures grows { Extends bank.old bank.new }
+        ensures bank { IsBank bank.new }
+    {
+        let said = self.related(bank, &x.vars, &x.memory, &x.low)?;
+        let replacements = facts(self.alloc, bank, self.book, said)?;
+        let from = replaced_trio(self.alloc, &replacements, x)?;
+        let known = known(bank, self.book, &replacements)?;
+        let rest = self.related(bank, &from.vars, &from.memory, &from.low)?;
+        let test = join(bank, self.book, Op::And, known, rest)?;
+        Ok(SymRelated { test, from })
+    }
+
+    /// Whether the state below is one that recovery may begin with, made anew where what this says of its inputs stands in their stead.
+    fn settled_under(&self, bank: &mut Bank, low: &SymValues) -> Result<SymSettled, NoMemory>
+        requires layer { LayerFits self.now.layer self.now.below }
+        requires shaped { LowShaped bank.old self.now.layer.low.now low.now }
+        ensures nodes { OnOk result (bank.new ≡ (settled_under (B.kinds self.now.book.now) (terms_in (B.kinds self.now.book.now) self.now.layer)
+            (closed self.now.layer) low.now bank.old).nodes) }
+        ensures test { IfOk result (λ s. s.test ≡ (settled_under (B.kinds self.now.book.now) (terms_in (B.kinds self.now.book.now) self.now.layer)
+            (closed self.now.layer) low.now bank.old).value.test) }
+        ensures low { IfOk result (λ s. s.low ≡ replaced_all (settled_under (B.kinds self.now.book.now)
+            (terms_in (B.kinds self.now.book.now) self.now.layer) (closed self.now.layer) low.now bank.old).value.facts low.now) }
+        ensures grows { Extends bank.old bank.new }
+        ensures bank { IsBank bank.new }
+    {
+        let said = self.settled(bank, low)?;
+        let replacements = facts(self.alloc, bank, self.book, said)?;
+        let from = replaced_all(self.alloc, &replacements, low)?;
+        let known = known(bank, self.book, &replacements)?;
+        let rest = self.settled(bank, &from)?;
+        let test = join(bank, self.book, Op::And, known, rest)?;
+        Ok(SymSettled { test, low: from })
+    }
+
     /// The states that the obligations begin with, from their inputs.
     fn started(&self, bank: &mut Bank, x: &SymTrio) -> Result<SymStarting, NoMemory>
         requires layer { LayerFits self.now.layer self.now.below }
@@ -309,10 +335,16 @@ impl<'a, B: Book> Maker<'a, B> {
         ensures grows { Extends bank.old bank.new }
         ensures bank { IsBank bank.new }
     {
-        let related = self.related(bank, &x.vars, &x.memory, &x.low)?;
-        let from = trio_under(self.alloc, bank, self.book, related, x)?;
-        let settled = self.settled(bank, &x.low)?;
-        let settled_low = values_under(self.alloc, bank, self.book, settled, &x.low)?;
+        let first = self.related_under(bank, x)?;
+        let SymRelated {
+            test: related,
+            from,
+        } = first;
+        let second = self.settled_under(bank, &x.low)?;
+        let SymSettled {
+            test: settled,
+            low: settled_low,
+        } = second;
         Ok(SymStarting {
             related,
             from,

@@ -15,8 +15,8 @@ pub join-requires-clause-two : goal.join-requires-clause-two
 join-requires-clause-two g c =
     wider c.args.bank.now c.recovers_alike.new.bank c.args.left.now.reached 1 c.recovers_alike.ensures.grows c.requires.reached
 
-pub join-requires-2-clause-two : goal.join-requires-2-clause-two
-join-requires-2-clause-two g c =
+pub implied-requires-clause-two : goal.implied-requires-clause-two
+implied-requires-clause-two g c =
     wider c.recovers_alike.new.bank c.join.new.bank c.in_ok-conclusion.conclusion 1 c.join.ensures.grows c.in_ok-conclusion.ensures.width
 
 pub returns-clause-nodes : goal.returns-clause-nodes
@@ -24,20 +24,20 @@ returns-clause-nodes g c =
     let kinds = g.B.Book.kinds c.args.maker.now.book.now in
     let l = c.args.maker.now.layer in
     let below = c.args.maker.now.below in
-    subst (λ (p : Out Id). OnOk c.join-2.result (c.join-2.new.bank ≡ p.nodes))
+    subst (λ (p : Out Id). OnOk c.implied.result (c.implied.new.bank ≡ p.nodes))
     (again_from kinds (recovers_alike kinds l below (numbers_in c.args.n) c.args.low.now c.args.left.now.fallen) c.args.settled
     c.args.left.now.reached c.in_ok-conclusion.conclusion c.in_ok-hypothesis.hypothesis c.args.bank.now c.recovers_alike.new.bank c.join.new.bank
-    c.in_ok-conclusion.ensures.id c.in_ok-conclusion.ensures.nodes c.in_ok-hypothesis.ensures.id c.in_ok-hypothesis.ensures.nodes) c.join-2.ensures.nodes
+    c.in_ok-conclusion.ensures.id c.in_ok-conclusion.ensures.nodes c.in_ok-hypothesis.ensures.id c.in_ok-hypothesis.ensures.nodes) c.implied.ensures.nodes
 
 pub returns-clause-id : goal.returns-clause-id
 returns-clause-id g c =
     let kinds = g.B.Book.kinds c.args.maker.now.book.now in
     let l = c.args.maker.now.layer in
     let below = c.args.maker.now.below in
-    subst (λ (p : Out Id). IfOk c.join-2.result (λ (id : Id). id ≡ p.value))
+    subst (λ (p : Out Id). IfOk c.implied.result (λ (id : Id). id ≡ p.value))
     (again_from kinds (recovers_alike kinds l below (numbers_in c.args.n) c.args.low.now c.args.left.now.fallen) c.args.settled
     c.args.left.now.reached c.in_ok-conclusion.conclusion c.in_ok-hypothesis.hypothesis c.args.bank.now c.recovers_alike.new.bank c.join.new.bank
-    c.in_ok-conclusion.ensures.id c.in_ok-conclusion.ensures.nodes c.in_ok-hypothesis.ensures.id c.in_ok-hypothesis.ensures.nodes) c.join-2.ensures.id
+    c.in_ok-conclusion.ensures.id c.in_ok-conclusion.ensures.nodes c.in_ok-hypothesis.ensures.id c.in_ok-hypothesis.ensures.nodes) c.implied.ensures.id
 
 pub returns-in_err-hypothesis-clause-grows : goal.returns-in_err-hypothesis-clause-grows
 returns-in_err-hypothesis-clause-grows g c =
@@ -45,5 +45,5 @@ returns-in_err-hypothesis-clause-grows g c =
 
 pub returns-clause-grows : goal.returns-clause-grows
 returns-clause-grows g c =
-    extends_both c.args.bank.now c.recovers_alike.new.bank c.join-2.new.bank c.recovers_alike.ensures.grows
-    (extends_both c.recovers_alike.new.bank c.join.new.bank c.join-2.new.bank c.join.ensures.grows c.join-2.ensures.grows)
+    extends_both c.args.bank.now c.recovers_alike.new.bank c.implied.new.bank c.recovers_alike.ensures.grows
+    (extends_both c.recovers_alike.new.bank c.join.new.bank c.implied.new.bank c.join.ensures.grows c.implied.ensures.grows)

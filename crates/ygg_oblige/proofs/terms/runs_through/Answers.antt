@@ -60,8 +60,8 @@ passes_after-requires-clause-can g c =
       single = c.in_ok-end.ensures.single c.args.n.run f.single;
     }
 
-pub join-requires-clause-one : goal.join-requires-clause-one
-join-requires-clause-one g c =
+pub implied-requires-clause-one : goal.implied-requires-clause-one
+implied-requires-clause-one g c =
     let s = c.args.s.now in
     wider c.run.new.bank c.passes_after.new.bank s.related 1 c.passes_after.ensures.grows
     (wider c.args.bank.now c.run.new.bank s.related 1 c.run.ensures.grows c.requires.can.starting.related)
@@ -74,14 +74,14 @@ returns-clause-nodes g c =
     let o = obligation_of c.args.obligation in
     let s = c.args.s.now in
     let e = c.in_ok-end.end in
-    subst (λ (p : Out Id). OnOk c.join.result (c.join.new.bank ≡ p.nodes))
+    subst (λ (p : Out Id). OnOk c.implied.result (c.implied.new.bank ≡ p.nodes))
     (runs_from kinds
     (λ b ds. run_made kinds (terms_in kinds l) (below_in c.args.maker.now.below) c.args.n.run b (sym_bind L.layer.memory s.from.memory)
     (sym_bind ds c.args.args.now) s.from.low c.args.bank.now)
     (λ answer memory low. some_in kinds (terms_in kinds l) L o s.from.vars c.args.args.now answer memory low) s.related c.block_of.result.now (block_of L o)
     c.arguments_of.result.now (arguments_of o) e.answer e.memory e.low c.in_ok-some.some c.run.new.bank c.passes_after.new.bank
     (c.block_of.ensures L refl) c.arguments_of.ensures c.in_ok-end.ensures.end.answer c.in_ok-end.ensures.end.memory c.in_ok-end.ensures.end.low
-    c.in_ok-end.ensures.nodes c.in_ok-some.ensures.id c.in_ok-some.ensures.nodes) c.join.ensures.nodes
+    c.in_ok-end.ensures.nodes c.in_ok-some.ensures.id c.in_ok-some.ensures.nodes) c.implied.ensures.nodes
 
 pub returns-clause-id : goal.returns-clause-id
 returns-clause-id g c =
@@ -91,14 +91,14 @@ returns-clause-id g c =
     let o = obligation_of c.args.obligation in
     let s = c.args.s.now in
     let e = c.in_ok-end.end in
-    subst (λ (p : Out Id). IfOk c.join.result (λ (id : Id). id ≡ p.value))
+    subst (λ (p : Out Id). IfOk c.implied.result (λ (id : Id). id ≡ p.value))
     (runs_from kinds
     (λ b ds. run_made kinds (terms_in kinds l) (below_in c.args.maker.now.below) c.args.n.run b (sym_bind L.layer.memory s.from.memory)
     (sym_bind ds c.args.args.now) s.from.low c.args.bank.now)
     (λ answer memory low. some_in kinds (terms_in kinds l) L o s.from.vars c.args.args.now answer memory low) s.related c.block_of.result.now (block_of L o)
     c.arguments_of.result.now (arguments_of o) e.answer e.memory e.low c.in_ok-some.some c.run.new.bank c.passes_after.new.bank
     (c.block_of.ensures L refl) c.arguments_of.ensures c.in_ok-end.ensures.end.answer c.in_ok-end.ensures.end.memory c.in_ok-end.ensures.end.low
-    c.in_ok-end.ensures.nodes c.in_ok-some.ensures.id c.in_ok-some.ensures.nodes) c.join.ensures.id
+    c.in_ok-end.ensures.nodes c.in_ok-some.ensures.id c.in_ok-some.ensures.nodes) c.implied.ensures.id
 
 pub returns-in_err-some-clause-grows : goal.returns-in_err-some-clause-grows
 returns-in_err-some-clause-grows g c =
@@ -106,6 +106,6 @@ returns-in_err-some-clause-grows g c =
 
 pub returns-clause-grows : goal.returns-clause-grows
 returns-clause-grows g c =
-    extends_both c.args.bank.now c.run.new.bank c.join.new.bank c.run.ensures.grows
-    (extends_both c.run.new.bank c.passes_after.new.bank c.join.new.bank c.passes_after.ensures.grows
-    c.join.ensures.grows)
+    extends_both c.args.bank.now c.run.new.bank c.implied.new.bank c.run.ensures.grows
+    (extends_both c.run.new.bank c.passes_after.new.bank c.implied.new.bank c.passes_after.ensures.grows
+    c.implied.ensures.grows)

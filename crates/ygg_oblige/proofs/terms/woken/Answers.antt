@@ -46,8 +46,8 @@ pub join-requires-clause-one : goal.join-requires-clause-one
 join-requires-clause-one g c =
     wider c.settled.new.bank c.passes_after.new.bank c.in_ok-side.side 1 c.passes_after.ensures.grows c.in_ok-side.ensures.width
 
-pub join-requires-2-clause-one : goal.join-requires-2-clause-one
-join-requires-2-clause-one g c =
+pub implied-requires-clause-one : goal.implied-requires-clause-one
+implied-requires-clause-one g c =
     let a = c.args.hypothesis in
     wider c.passes_after.new.bank c.join.new.bank a 1 c.join.ensures.grows
     (wider c.settled.new.bank c.passes_after.new.bank a 1 c.passes_after.ensures.grows
@@ -59,12 +59,12 @@ returns-clause-nodes g c =
     let l = c.args.maker.now.layer in
     let L = closed l in
     let e = c.args.end.now in
-    subst (λ (p : Out Id). OnOk c.join-2.result (c.join-2.new.bank ≡ p.nodes))
+    subst (λ (p : Out Id). OnOk c.implied.result (c.implied.new.bank ≡ p.nodes))
     (woken_from kinds (settled_made kinds (terms_in kinds l) L c.args.fallen.now)
     (some_in kinds (terms_in kinds l) L (obligation_of c.args.obligation) c.args.vars.now c.args.args.now e.answer e.memory e.low) c.args.hypothesis
     c.in_ok-side.side c.in_ok-some.some c.in_ok-conclusion.conclusion c.args.bank.now c.settled.new.bank c.passes_after.new.bank c.join.new.bank
     c.in_ok-side.ensures.id c.in_ok-side.ensures.nodes c.in_ok-some.ensures.id c.in_ok-some.ensures.nodes c.in_ok-conclusion.ensures.id
-    c.in_ok-conclusion.ensures.nodes) c.join-2.ensures.nodes
+    c.in_ok-conclusion.ensures.nodes) c.implied.ensures.nodes
 
 pub returns-clause-id : goal.returns-clause-id
 returns-clause-id g c =
@@ -72,12 +72,12 @@ returns-clause-id g c =
     let l = c.args.maker.now.layer in
     let L = closed l in
     let e = c.args.end.now in
-    subst (λ (p : Out Id). IfOk c.join-2.result (λ (id : Id). id ≡ p.value))
+    subst (λ (p : Out Id). IfOk c.implied.result (λ (id : Id). id ≡ p.value))
     (woken_from kinds (settled_made kinds (terms_in kinds l) L c.args.fallen.now)
     (some_in kinds (terms_in kinds l) L (obligation_of c.args.obligation) c.args.vars.now c.args.args.now e.answer e.memory e.low) c.args.hypothesis
     c.in_ok-side.side c.in_ok-some.some c.in_ok-conclusion.conclusion c.args.bank.now c.settled.new.bank c.passes_after.new.bank c.join.new.bank
     c.in_ok-side.ensures.id c.in_ok-side.ensures.nodes c.in_ok-some.ensures.id c.in_ok-some.ensures.nodes c.in_ok-conclusion.ensures.id
-    c.in_ok-conclusion.ensures.nodes) c.join-2.ensures.id
+    c.in_ok-conclusion.ensures.nodes) c.implied.ensures.id
 
 pub returns-in_err-some-clause-grows : goal.returns-in_err-some-clause-grows
 returns-in_err-some-clause-grows g c =
@@ -90,6 +90,6 @@ returns-in_err-conclusion-clause-grows g c =
 
 pub returns-clause-grows : goal.returns-clause-grows
 returns-clause-grows g c =
-    extends_both c.args.bank.now c.settled.new.bank c.join-2.new.bank c.settled.ensures.grows
-    (extends_both c.settled.new.bank c.passes_after.new.bank c.join-2.new.bank c.passes_after.ensures.grows
-    (extends_both c.passes_after.new.bank c.join.new.bank c.join-2.new.bank c.join.ensures.grows c.join-2.ensures.grows))
+    extends_both c.args.bank.now c.settled.new.bank c.implied.new.bank c.settled.ensures.grows
+    (extends_both c.settled.new.bank c.passes_after.new.bank c.implied.new.bank c.passes_after.ensures.grows
+    (extends_both c.passes_after.new.bank c.join.new.bank c.implied.new.bank c.join.ensures.grows c.implied.ensures.grows))
