@@ -25,7 +25,8 @@ use Rattle.ygg_shape_words.specs.Forms.{WordsAlike}
 use Rattle.ygg_shape_words.specs.Picking.{picked}
 use Rattle.ygg_shape_words.specs.Same.{same_words, IsSame}
 use Rattle.ygg_shape_sums.proofs.Cancels.{cancels_within_is}
-use Rattle.ygg_shape_sums.proofs.Fit.{two_fit, split_digit, parts_wider, facts_wider, facts_more}
+use Rattle.ygg_shape_sums.proofs.Splits.{split_digit}
+use Rattle.ygg_shape_sums.proofs.Fit.{two_fit, parts_wider, facts_wider, facts_more}
 use Rattle.ygg_shape_sums.proofs.Keeps.{vanishes_within_grows, compared_words_grows, equated_words_grows}
 use Rattle.ygg_shape_sums.proofs.Modulo.{Like, like, like_both, like_add, less_and, sides_equal}
 use Rattle.ygg_shape_sums.proofs.Sides.{vanishes_is}
@@ -34,7 +35,7 @@ use Rattle.ygg_shape_sums.proofs.Worth.{bits, worth, FactsHold}
 use Rattle.ygg_shape_sums.specs.Cancels.{has_product, cancels_within, cancels}
 use Rattle.ygg_shape_sums.specs.Parts.{Sum, PartsFit, part}
 use Rattle.ygg_shape_sums.specs.Readings.{FactsFit, fact}
-use Rattle.ygg_shape_sums.specs.Gathers.{split_of}
+use Rattle.ygg_shape_sums.specs.Splits.{split_of}
 use Rattle.ygg_shape_sums.specs.Reduces.{reduced_sum}
 use Rattle.ygg_shape_sums.specs.Equates.{Found, Step, split_as, vanishes_within, difference, are_sums, compared_words, equated_words}
 use Rattle.ygg_shape_sums.specs.declared.cancelling.TheConstants.{CANCEL_LIMIT}
@@ -112,13 +113,13 @@ module _ (inputs : Inputs) (v : Values) (w : ℕ) (wide : IsWidth w) (kinds : Li
       let m = vanishes_is inputs v w wide kinds s nodes p h in record { has = m.wide; is = λ k. m.is }
   vanishes_within_is (suc depth) left facts s nodes f p h =
       let g = reduced_sum nodes w facts s in
-      let n = split_of nodes left g.parts in
+      let n = split_of nodes w left facts g.parts in
       let step = vanishes_within kinds w depth in
       let own = fits_fewer inputs v nodes (split_as kinds w step left facts g n nodes).nodes (vanishes_within_grows kinds w (suc depth) left facts s nodes) h in
       let q = sum_fits nodes w facts s own.ordered p in
       read_is nodes facts s (split_as kinds w step left facts g n nodes) own p
       (split_as_is step left facts g n nodes (vanishes_within_is depth) (vanishes_within_grows kinds w depth) f q
-      (λ t. split_digit nodes w left g.parts t own.ordered q) h)
+      (λ t. split_digit nodes w left facts g.parts t own.ordered q) h)
 
   -- a difference is 0 where the words are equal
   difference_is : (nodes : List Node) (a b : Id) → Fits inputs v nodes → HasWidth nodes a w → HasWidth nodes b w →

@@ -112,7 +112,7 @@ module _ (nodes : List Node) (w : ℕ) where
       two_fit (single k a) (single l b) (record { factors = All-nil Wide; rest = one_wide a h }) (record { factors = All-nil Wide; rest = one_wide b i })
 
   -- a test that is found is a single digit
-  either_digit : (m n : Option Id) → DigitIn nodes w m → DigitIn nodes w n → DigitIn nodes w (first_id m n)
+  pub either_digit : (m n : Option Id) → DigitIn nodes w m → DigitIn nodes w n → DigitIn nodes w (first_id m n)
   either_digit (Some t) n h i = h
   either_digit None n h i = i
 
@@ -130,12 +130,13 @@ module _ (nodes : List Node) (w : ℕ) where
   gone_digit n true h = tt
   gone_digit n false h = h
 
+  pub product_digit : (p : Product) → InOrder [] nodes → ProductFits nodes w p → DigitIn nodes w (product_test nodes w p)
+  product_digit p o h = gone_digit (factor_test nodes p.factors) (p.times % 2 ^ w == 0) (factor_digit p.factors o h.factors)
+
   pub products_digit : (ps : List Product) → InOrder [] nodes → All (ProductFits nodes w) ps → DigitIn nodes w (products_test nodes w ps)
   products_digit [] o h = tt
   products_digit (p ∷ ps) o h =
-      let own = All-head (ProductFits nodes w) p ps h in
-      either_digit (product_test nodes w p) (products_test nodes w ps)
-      (gone_digit (factor_test nodes p.factors) (p.times % 2 ^ w == 0) (factor_digit p.factors o own.factors))
+      either_digit (product_test nodes w p) (products_test nodes w ps) (product_digit p o (All-head (ProductFits nodes w) p ps h))
       (products_digit ps o (All-tail (ProductFits nodes w) p ps h))
 
 pub all_stand : (nodes : List Node) (w : ℕ) (xs : List Id) → All (λ (a : Id). HasWidth nodes a w) xs → AllStand nodes xs

@@ -16,7 +16,7 @@ use Rattle.ygg_shape_words.proofs.Children.{bin_alike, not_wide, pick_children}
 use Rattle.ygg_shape_sums.proofs.Terms.{one, two, sides, merged_all, gathered_all}
 use Rattle.ygg_shape_sums.specs.Parts.{Sum, PartsFit, PartsAlike, part, merged}
 use Rattle.ygg_shape_sums.specs.Readings.{ReadingFits, FactsFit, read, read_bin, read_pick, decided, fact}
-use Rattle.ygg_shape_sums.specs.Gathers.{parts_of, gathered, below, test_in, first_id, first_test, is_rich, split_of}
+use Rattle.ygg_shape_sums.specs.Gathers.{parts_of, gathered, below, test_in, first_id, first_test}
 use Rattle.ygg_shape_sums.specs.declared.parts.Summand.{Summand}
 use Rattle.ygg_shape_sums.specs.declared.reading.Fact.{Fact}
 use Rattle.ygg_shape_sums.specs.declared.reading.Decomposition.{Decomposition}
@@ -106,22 +106,11 @@ module _ (nodes : List Node) (w : ℕ) where
   either_digit (Some t) n false h i = h
   either_digit None n false h i = i
 
-  first_digit : (ps : List Summand) → InOrder [] nodes → PartsFit nodes w ps → DigitIn (first_test nodes ps)
+  pub first_digit : (ps : List Summand) → InOrder [] nodes → PartsFit nodes w ps → DigitIn (first_test nodes ps)
   first_digit [] o h = tt
   first_digit (p ∷ ps) o h =
       either_digit (test_in (slice_get nodes p.term.0)) (first_test nodes ps) (p.times == 0)
       (test_digit p (slice_get nodes p.term.0) o refl (All-head Fit p ps h)) (first_digit ps o (All-tail Fit p ps h))
-
-  split_case : (n : Option Id) (c d : Bool) → DigitIn n → DigitIn (if c then None else if d then n else None)
-  split_case n true d h = tt
-  split_case n false true h = h
-  split_case n false false h = tt
-
-  pub split_digit : (left : ℕ) (ps : List Summand) (t : Id) → InOrder [] nodes → PartsFit nodes w ps → split_of nodes left ps ≡ Some t → HasWidth nodes t 1
-  split_digit left ps t o h e = digit_at (split_of nodes left ps) e (split_case (first_test nodes ps) (left == 0) (is_rich nodes ps) (first_digit ps o h)) where
-    digit_at : (n : Option Id) → n ≡ Some t → DigitIn n → HasWidth nodes t 1
-    digit_at (Some u) e d = let f : u ≡ t = cc in ap (λ (z : Id). slice_get (widths_of nodes) z.0) (sym f) ∙ d
-    digit_at None e d = absurd (cc)
 
 pub part_stands : (nodes : List Node) (ps : List Summand) (i : ℕ) (d : Summand) → PartsAlike nodes ps → i < length ps → Stands nodes (get_or ps i d).term
 part_stands nodes ps i d h l = stands nodes (get_or ps i d).term h.width (All-get_or (λ (p : Summand). HasWidth nodes p.term h.width) ps i d l h.fit)

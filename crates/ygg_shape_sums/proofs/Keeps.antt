@@ -14,7 +14,7 @@ use Rattle.ygg_shape_words.proofs.Keeps.{Stays, grows_stays, picked_keeps, same_
 use Rattle.ygg_shape_words.specs.Same.{same_words}
 use Rattle.ygg_shape_sums.specs.Parts.{Sum}
 use Rattle.ygg_shape_sums.specs.Readings.{fact}
-use Rattle.ygg_shape_sums.specs.Gathers.{split_of}
+use Rattle.ygg_shape_sums.specs.Splits.{split_of}
 use Rattle.ygg_shape_sums.specs.Reduces.{reduced_sum}
 use Rattle.ygg_shape_sums.specs.Sides.{share, more, all_more, side, vanishes}
 use Rattle.ygg_shape_sums.specs.Cancels.{cancels}
@@ -81,7 +81,7 @@ module _ (kinds : List RuleKind) (P : List Node → Type 0) (stays : Stays kinds
   vanishes_within_keeps w zero left facts s nodes p = vanishes_keeps w s nodes p
   vanishes_within_keeps w (suc depth) left facts s nodes p =
       let g = reduced_sum nodes w facts s in
-      split_as_keeps w (vanishes_within kinds w depth) left facts g (split_of nodes left g.parts) nodes (vanishes_within_keeps w depth) p
+      split_as_keeps w (vanishes_within kinds w depth) left facts g (split_of nodes w left facts g.parts) nodes (vanishes_within_keeps w depth) p
 
   kept_if : (c : Bool) (one two : Out Id) → P one.nodes → P two.nodes → P (if c then one else two).nodes
   kept_if true one two h i = h

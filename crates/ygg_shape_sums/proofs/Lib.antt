@@ -6,6 +6,7 @@ pub mod Worth
 pub mod Factors
 pub mod Polynomials
 pub mod Reduces
+pub mod Splits
 pub mod Keeps
 pub mod Sides
 pub mod Cancels

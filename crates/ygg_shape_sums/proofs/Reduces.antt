@@ -30,7 +30,7 @@ module _ (nodes : List Node) (w : ℕ) where
     rest = All-push (λ (a : Id). HasWidth nodes a w) [] a (All-nil (λ (a : Id). HasWidth nodes a w)) h;
   }
 
-  products_fit : (ps : List Summand) → PartsFit nodes w ps → All (ProductFits nodes w) (products_of ps)
+  pub products_fit : (ps : List Summand) → PartsFit nodes w ps → All (ProductFits nodes w) (products_of ps)
   products_fit [] h = All-nil (ProductFits nodes w)
   products_fit (p ∷ ps) h =
       let P = λ (p : Summand). HasWidth nodes p.term w in

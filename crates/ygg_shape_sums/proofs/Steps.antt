@@ -11,8 +11,9 @@ use Rattle.ygg_shape_words.specs.ygg_bank.declared.node.Id.{Id}
 use Rattle.ygg_shape_words.specs.ygg_bank.declared.node.Node.{Node}
 use Rattle.ygg_shape_sums.specs.Parts.{Sum, part, merged}
 use Rattle.ygg_shape_sums.specs.Readings.{read}
-use Rattle.ygg_shape_sums.specs.Gathers.{parts_of, counted, with_all, gathered, found_within, split_of}
+use Rattle.ygg_shape_sums.specs.Gathers.{parts_of, counted, with_all, gathered, found_within}
 use Rattle.ygg_shape_sums.specs.Reduces.{reduced_sum}
+use Rattle.ygg_shape_sums.specs.Splits.{split_of}
 use Rattle.ygg_shape_sums.specs.Sides.{share, more, all_more, vanishes}
 use Rattle.ygg_shape_sums.specs.Equates.{Found, IsFound, found, split_as, vanishes_within}
 use Rattle.ygg_shape_sums.specs.declared.parts.Summand.{Summand}
@@ -125,12 +126,12 @@ module _ (kinds : List RuleKind) where
 
   pub within_split : {E : Type 0} (w depth left l : ℕ) (facts : List Fact) (s g : Sum) (old new : List Node) (r : Result Id E) → 0 < depth →
       g ≡ reduced_sum old w facts s →
-      IfOk r (λ id. IsFound (split_as kinds w (vanishes_within kinds w (depth - 1)) left facts g (split_of old left g.parts)) old new id l) →
+      IfOk r (λ id. IsFound (split_as kinds w (vanishes_within kinds w (depth - 1)) left facts g (split_of old w left facts g.parts)) old new id l) →
       IfOk r (λ id. IsFound (vanishes_within kinds w depth left facts s) old new id l)
   unfolding vanishes_within
   within_split w zero left l facts s g old new r d i f = absurd (omega arith)
   within_split w (suc depth) left l facts s g old new r d i f =
-      let step : ℕ → Sum → Make Found = λ z t. split_as kinds w (vanishes_within kinds w z) left facts t (split_of old left t.parts) in
+      let step : ℕ → Sum → Make Found = λ z t. split_as kinds w (vanishes_within kinds w z) left facts t (split_of old w left facts t.parts) in
       let same : suc depth - 1 ≡ depth = omega arith in
       found_by (step (suc depth - 1) g) (vanishes_within kinds w (suc depth) left facts s) old new r l
       (ap (λ z. step z g old) same ∙ ap (λ z. step depth z old) i) f

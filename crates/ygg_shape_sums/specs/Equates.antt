@@ -12,10 +12,11 @@ use Rattle.ygg_shape_words.specs.Picking.{picked}
 use Rattle.ygg_shape_words.specs.Same.{same_words}
 use Rattle.ygg_shape_sums.specs.Parts.{Sum, part}
 use Rattle.ygg_shape_sums.specs.Readings.{fact}
-use Rattle.ygg_shape_sums.specs.Gathers.{gathered_sum, has_sum, split_of}
+use Rattle.ygg_shape_sums.specs.Gathers.{gathered_sum, has_sum}
 use Rattle.ygg_shape_sums.specs.Sides.{vanishes}
 use Rattle.ygg_shape_sums.specs.Cancels.{cancels}
 use Rattle.ygg_shape_sums.specs.Reduces.{reduced_sum, loses_products}
+use Rattle.ygg_shape_sums.specs.Splits.{split_of}
 use Rattle.ygg_shape_sums.specs.declared.equating.TheConstants.{EQUATE_LIMIT}
 use Rattle.ygg_shape_sums.specs.declared.gathering.TheConstants.{READ_LIMIT}
 use Rattle.ygg_shape_sums.specs.declared.reading.Fact.{Fact}
@@ -44,7 +45,7 @@ split_as kinds w next left facts s (Some t) =
 unfoldable pub vanishes_within : List RuleKind → ℕ → ℕ → Step
 vanishes_within kinds w zero left facts s = split_as kinds w (λ left facts s. pure (found left (record { 0 = 0 }))) left facts s None
 vanishes_within kinds w (suc depth) left facts s = λ nodes.
-    let g = reduced_sum nodes w facts s in split_as kinds w (vanishes_within kinds w depth) left facts g (split_of nodes left g.parts) nodes
+    let g = reduced_sum nodes w facts s in split_as kinds w (vanishes_within kinds w depth) left facts g (split_of nodes w left facts g.parts) nodes
 
 -- one word less another
 abbrev pub difference : Id → Id → Sum

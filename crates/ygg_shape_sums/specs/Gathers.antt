@@ -90,7 +90,3 @@ first_test nodes (p ∷ ps) = first_id (test_at nodes p) (first_test nodes ps)
 -- whether a sum that is to be split is one that `same` doesn't compare as well: three terms and more, or sums below picks
 abbrev pub is_rich : List Node → List Summand → Bool
 is_rich nodes ps = nat_lt 2 (count_by (λ (p : Summand). not (p.times == 0)) ps) || has_sum READ_LIMIT nodes ps
-
--- the test that the equality of a sum with 0 is split on, where it is
-abbrev pub split_of : List Node → ℕ → List Summand → Option Id
-split_of nodes left ps = if left == 0 then None else if is_rich nodes ps then first_test nodes ps else None

@@ -22,5 +22,6 @@ pub mod Products
 pub mod Multiplies
 pub mod Cancels
 pub mod Reduces
+pub mod Splits
 pub mod Equates
 pub mod Plain

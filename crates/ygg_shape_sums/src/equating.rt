@@ -8,17 +8,18 @@ ghost use Rattle.ygg_shape_words.specs.ygg_bank.Values.{KeepsValues};
 ghost use Rattle.ygg_shape_words.specs.Forms.{WordsAlike};
 ghost use Rattle.ygg_shape_words.specs.Same.{IsSame};
 ghost use Rattle.ygg_shape_sums.specs.Equates.{IsFound, are_sums, compared_words, difference, equated_words, split_as, subtracted, vanishes_within};
-ghost use Rattle.ygg_shape_sums.specs.Gathers.{split_of};
 ghost use Rattle.ygg_shape_sums.specs.Parts.{PartsFit, Sum};
 ghost use Rattle.ygg_shape_sums.specs.Readings.{FactsFit, fact};
+ghost use Rattle.ygg_shape_sums.specs.Splits.{split_of};
 
 use crate::cancelling::cancels;
-use crate::gathering::{has_sum, split_of};
+use crate::gathering::has_sum;
 use crate::parts::{Summand, Total};
 use crate::plain::are_plain;
 use crate::reading::{Fact, LESS_ONE, with};
 use crate::reducing::{loses_products, reduce};
 use crate::siding::vanishes;
+use crate::splitting::split_of;
 use ygg_shape_words::{Bank, Book, Id, NoMemory, Node, pick, same};
 use ygg_value::Word;
 
@@ -68,12 +69,12 @@ fn vanishes_split<B: Book>(
     requires facts { FactsFit bank.old facts.now }
     requires parts { PartsFit bank.old width sum.now.parts }
     ensures made { IfOk result (λ id. IsFound (split_as (B.kinds book.now) width (vanishes_within (B.kinds book.now) width depth) left.old facts.now sum.now
-        (split_of bank.old left.old sum.now.parts)) bank.old bank.new id left.new) }
+        (split_of bank.old width left.old facts.now sum.now.parts)) bank.old bank.new id left.new) }
     ensures width { IfOk result (λ id. HasWidth bank.new id 1) }
     ensures grows { Extends bank.old bank.new }
     ensures bank { IsBank bank.new }
 {
-    match split_of(bank, *left, sum.parts())? {
+    match split_of(bank, width, *left, facts, sum.parts())? {
         None => vanishes(bank, book, width, sum),
         Some(test) => {
             *left = left.saturating_sub(1);

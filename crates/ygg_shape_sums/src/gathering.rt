@@ -2,7 +2,7 @@
 
 ghost use Rattle.std.specs.Prelude.{◌≡◌, ◌++◌, ◌∷◌, [], IfOk, OnOk, Some, slice_get};
 ghost use Rattle.ygg_shape_words.specs.ygg_bank.Nodes.{IsBank, Stands};
-ghost use Rattle.ygg_shape_sums.specs.Gathers.{below, counted, first_test, gathered_sum, has_sum, is_rich, is_sum, parts_of, split_of, test_at, with_all};
+ghost use Rattle.ygg_shape_sums.specs.Gathers.{below, counted, first_test, gathered_sum, has_sum, is_rich, is_sum, parts_of, test_at, with_all};
 ghost use Rattle.ygg_shape_sums.specs.Parts.{PartsAlike, Sum};
 ghost use Rattle.ygg_shape_sums.specs.Readings.{FactsFit};
 
@@ -156,21 +156,8 @@ pub fn look(todo: &mut Vec<Summand>, part: Summand, node: Node) -> Result<(), No
     }
 }
 
-/// The test that the equality of a sum with 0 is split on, where it is. Its only error is out of memory.
-pub fn split_of(bank: &Bank, left: u32, parts: &[Summand]) -> Result<Option<Id>, NoMemory>
-    requires bank { IsBank bank.now }
-    requires parts { PartsAlike bank.now parts.now }
-    ensures { IfOk result (λ test. test ≡ split_of bank.now left parts.now) }
-{
-    if left > 0 && is_rich(bank, parts)? {
-        Ok(first_test(bank, parts))
-    } else {
-        Ok(None)
-    }
-}
-
-/// Whether a sum has three terms or more, or sums below picks.
-fn is_rich(bank: &Bank, parts: &[Summand]) -> Result<bool, NoMemory>
+/// Whether a sum has three terms or more, or sums below picks. Its only error is out of memory.
+pub fn is_rich(bank: &Bank, parts: &[Summand]) -> Result<bool, NoMemory>
     requires bank { IsBank bank.now }
     requires parts { PartsAlike bank.now parts.now }
     ensures { IfOk result (λ rich. rich ≡ is_rich bank.now parts.now) }
@@ -183,7 +170,7 @@ fn is_rich(bank: &Bank, parts: &[Summand]) -> Result<bool, NoMemory>
 }
 
 /// The test of the first pick among the parts that are there at all.
-fn first_test(bank: &Bank, parts: &[Summand]) -> Option<Id>
+pub fn first_test(bank: &Bank, parts: &[Summand]) -> Option<Id>
     requires bank { IsBank bank.now }
     requires parts { PartsAlike bank.now parts.now }
     ensures { result ≡ first_test bank.now parts.now }

@@ -12,6 +12,7 @@ pub mod products;
 pub mod reading;
 pub mod reducing;
 pub mod siding;
+pub mod splitting;
 
 pub use equating::{EQUATE_LIMIT, equate};
 pub use ygg_shape_words::{

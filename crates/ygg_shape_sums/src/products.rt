@@ -236,7 +236,7 @@ pub fn products_test(bank: &Bank, width: u8, products: &[Monomial]) -> Option<Id
 }
 
 /// The test of the first pick among the factors of a product, where it is there at all.
-fn product_test(bank: &Bank, width: u8, product: &Monomial) -> Option<Id>
+pub fn product_test(bank: &Bank, width: u8, product: &Monomial) -> Option<Id>
     requires bank { IsBank bank.now }
     requires width { IsWidth width }
     requires product { AllStand bank.now product.now.factors }

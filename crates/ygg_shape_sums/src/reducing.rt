@@ -44,7 +44,7 @@ pub fn loses_products(bank: &Bank, width: u8, total: &Total) -> Result<bool, NoM
 }
 
 /// Whether a product of two terms is among the parts.
-fn any_product(bank: &Bank, parts: &[Summand]) -> bool
+pub fn any_product(bank: &Bank, parts: &[Summand]) -> bool
     requires bank { IsBank bank.now }
     requires parts { PartsAlike bank.now parts.now }
     ensures { result ≡ any_product bank.now parts.now }

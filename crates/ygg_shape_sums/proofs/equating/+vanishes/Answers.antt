@@ -6,9 +6,10 @@ use Rattle.ygg_shape_words.specs.ygg_bank.Nodes.{HasWidth}
 use Rattle.ygg_shape_words.specs.ygg_bank.declared.node.Id.{Id}
 use Rattle.ygg_shape_words.proofs.Fit.{can_pick}
 use Rattle.ygg_shape_sums.proofs.Reduces.{sum_fits}
-use Rattle.ygg_shape_sums.proofs.Fit.{parts_wider, facts_wider, facts_more, split_digit}
+use Rattle.ygg_shape_sums.proofs.Fit.{parts_wider, facts_wider, facts_more}
+use Rattle.ygg_shape_sums.proofs.Splits.{split_digit}
 use Rattle.ygg_shape_sums.proofs.Steps.{within_zero, within_split}
-use Rattle.ygg_shape_sums.specs.Gathers.{split_of}
+use Rattle.ygg_shape_sums.specs.Splits.{split_of}
 use Rattle.ygg_shape_sums.specs.Equates.{IsFound, vanishes_within}
 use Rattle.ygg_shape_sums.specs.Parts.{PartsFit, Sum}
 use Rattle.ygg_shape_sums.specs.Readings.{FactsFit}
@@ -34,13 +35,15 @@ vanishes_within-returns-clause-made g t c =
     c.in_ok-sum.sum c.args.bank.now c.vanishes_split.new.bank c.vanishes_split.result d c.in_ok-sum.ensures c.vanishes_split.ensures.made
 
 pub vanishes_split-split_of-requires-clause-parts : goal.vanishes_split-split_of-requires-clause-parts
-vanishes_split-split_of-requires-clause-parts g t c =
-    record { width = c.args.width; fit = subst (PartsFit c.args.bank.now c.args.width) (sym c.parts.ensures) c.requires.parts }
+vanishes_split-split_of-requires-clause-parts g t c = subst (PartsFit c.args.bank.now c.args.width) (sym c.parts.ensures) c.requires.parts
+
+pub vanishes_split-split_of-requires-clause-facts : goal.vanishes_split-split_of-requires-clause-facts
+vanishes_split-split_of-requires-clause-facts g t c = c.requires.facts
 
 pub vanishes_split-vanishes_where-requires : goal.vanishes_split-vanishes_where-requires
 vanishes_split-vanishes_where-requires g t c κs within =
-    let n = sym c.in-Some.is ∙ c.in_ok-split_of.ensures ∙ ap (λ (ps : List Summand). split_of c.args.bank.now c.args.left.now ps) c.parts.ensures in
-    let digit = split_digit c.args.bank.now c.args.width c.args.left.now (c.args.sum.now).parts c.in-Some.test c.requires.bank.ordered
+    let n = sym c.in-Some.is ∙ c.in_ok-split_of.ensures ∙ ap (λ (ps : List Summand). split_of c.args.bank.now c.args.width c.args.left.now c.args.facts.now ps) c.parts.ensures in
+    let digit = split_digit c.args.bank.now c.args.width c.args.left.now c.args.facts.now (c.args.sum.now).parts c.in-Some.test c.requires.bank.ordered
     c.requires.parts (sym n) in
     (omega arith, (search rules, (c.requires.bank, (c.requires.width, (c.requires.facts, (digit, c.requires.parts))))))
 
@@ -49,8 +52,8 @@ vanishes_split-vanishes_where-requires-in-Some g t c κs within =
     let a = c.args.bank.now in
     let b = c.vanishes_where.new.bank in
     let grows = c.vanishes_where.ensures.grows in
-    let n = sym c.in-Some.is ∙ c.in_ok-split_of.ensures ∙ ap (λ (ps : List Summand). split_of c.args.bank.now c.args.left.now ps) c.parts.ensures in
-    let digit = split_digit a c.args.width c.args.left.now (c.args.sum.now).parts c.in-Some.test c.requires.bank.ordered c.requires.parts (sym n) in (
+    let n = sym c.in-Some.is ∙ c.in_ok-split_of.ensures ∙ ap (λ (ps : List Summand). split_of c.args.bank.now c.args.width c.args.left.now c.args.facts.now ps) c.parts.ensures in
+    let digit = split_digit a c.args.width c.args.left.now c.args.facts.now (c.args.sum.now).parts c.in-Some.test c.requires.bank.ordered c.requires.parts (sym n) in (
       omega arith,
       (
         search rules,
@@ -70,8 +73,8 @@ vanishes_split-vanishes_where-requires-in-Some g t c κs within =
 pub vanishes_split-pick-requires-clause-pick : goal.vanishes_split-pick-requires-clause-pick
 vanishes_split-pick-requires-clause-pick g t c =
     let a = c.args.bank.now in let b = c.vanishes_where.new.bank in let m = c.vanishes_where-in-Some.new.bank in
-    let n = sym c.in-Some.is ∙ c.in_ok-split_of.ensures ∙ ap (λ (ps : List Summand). split_of c.args.bank.now c.args.left.now ps) c.parts.ensures in
-    let digit = split_digit a c.args.width c.args.left.now (c.args.sum.now).parts c.in-Some.test c.requires.bank.ordered c.requires.parts (sym n) in
+    let n = sym c.in-Some.is ∙ c.in_ok-split_of.ensures ∙ ap (λ (ps : List Summand). split_of c.args.bank.now c.args.width c.args.left.now c.args.facts.now ps) c.parts.ensures in
+    let digit = split_digit a c.args.width c.args.left.now c.args.facts.now (c.args.sum.now).parts c.in-Some.test c.requires.bank.ordered c.requires.parts (sym n) in
     can_pick m c.in-Some.test c.in_ok-yes-in-Some.yes c.in_ok-no-in-Some.no 1
     (wider a m c.in-Some.test 1 (extends_both a b m c.vanishes_where.ensures.grows c.vanishes_where-in-Some.ensures.grows) digit)
     (wider b m c.in_ok-yes-in-Some.yes 1 c.vanishes_where-in-Some.ensures.grows c.in_ok-yes-in-Some.ensures.width) c.in_ok-no-in-Some.ensures.width
@@ -220,16 +223,16 @@ pub vanishes_split-returns-in-None-clause-made : goal.vanishes_split-returns-in-
 vanishes_split-returns-in-None-clause-made g t c =
     split_none (g.B.Book.kinds c.args.book.now) c.args.width (vanishes_within (g.B.Book.kinds c.args.book.now) c.args.width c.args.depth) c.args.facts.now
     c.args.sum.now
-    (split_of c.args.bank.now c.args.left.now (c.args.sum.now).parts) c.args.bank.now c.vanishes.new.bank c.args.left.now c.vanishes.result
-    (sym (sym c.in-None.is ∙ c.in_ok-split_of.ensures ∙ ap (λ (ps : List Summand). split_of c.args.bank.now c.args.left.now ps) c.parts.ensures))
+    (split_of c.args.bank.now c.args.width c.args.left.now c.args.facts.now (c.args.sum.now).parts) c.args.bank.now c.vanishes.new.bank c.args.left.now c.vanishes.result
+    (sym (sym c.in-None.is ∙ c.in_ok-split_of.ensures ∙ ap (λ (ps : List Summand). split_of c.args.bank.now c.args.width c.args.left.now c.args.facts.now ps) c.parts.ensures))
     c.vanishes.ensures.nodes c.vanishes.ensures.form
 
 pub vanishes_split-returns-in_ok-no-in-Some-clause-made : goal.vanishes_split-returns-in_ok-no-in-Some-clause-made
 vanishes_split-returns-in_ok-no-in-Some-clause-made g t c =
     split_some (g.B.Book.kinds c.args.book.now) c.args.width (vanishes_within (g.B.Book.kinds c.args.book.now) c.args.width c.args.depth) c.args.facts.now
     c.args.sum.now
-    (split_of c.args.bank.now c.args.left.now (c.args.sum.now).parts) c.args.bank.now c.pick.new.bank c.args.left.now _ c.vanishes_where.new.left
+    (split_of c.args.bank.now c.args.width c.args.left.now c.args.facts.now (c.args.sum.now).parts) c.args.bank.now c.pick.new.bank c.args.left.now _ c.vanishes_where.new.left
     c.vanishes_where-in-Some.new.left c.in-Some.test c.in_ok-yes-in-Some.yes c.in_ok-no-in-Some.no c.vanishes_where.new.bank
     c.vanishes_where-in-Some.new.bank c.pick.result
-    (sym (sym c.in-Some.is ∙ c.in_ok-split_of.ensures ∙ ap (λ (ps : List Summand). split_of c.args.bank.now c.args.left.now ps) c.parts.ensures))
+    (sym (sym c.in-Some.is ∙ c.in_ok-split_of.ensures ∙ ap (λ (ps : List Summand). split_of c.args.bank.now c.args.width c.args.left.now c.args.facts.now ps) c.parts.ensures))
     c.saturating_sub.ensures c.in_ok-yes-in-Some.ensures.made c.in_ok-no-in-Some.ensures.made c.pick.ensures.nodes c.pick.ensures.form
