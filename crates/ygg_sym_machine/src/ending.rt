@@ -82,7 +82,7 @@ fn last_left<W: SymStops, B: Book>(
 {
     // the bank's nodes stand in order
     let _ = bank.len();
-    let here = first(bank, book, stopped, here)?;
+    let ends = first(bank, book, stopped, here)?;
     let lost = stops.lose(alloc, bank, book, to)?;
-    stops.join(alloc, bank, book, here, &lost, fallen)
+    stops.join(alloc, bank, book, ends, &lost, fallen)
 }

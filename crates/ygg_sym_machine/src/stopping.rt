@@ -123,11 +123,11 @@ pub fn left<W: SymStops, B: Book>(
 {
     // the bank's nodes stand in order
     let _ = bank.len();
-    let before = first(bank, book, stopped, here)?;
+    let outer = first(bank, book, stopped, here)?;
     let some = either(bank, book, stopped, here)?;
-    let within = first(bank, book, some, within)?;
+    let inner = first(bank, book, some, within)?;
     leaves(
-        stops, alloc, bank, book, before, within, question, to, fallen, stopped,
+        stops, alloc, bank, book, outer, inner, question, to, fallen, stopped,
     )
 }
 
