@@ -2,6 +2,7 @@
 use Rattle.std.proofs.Common.{false, arith}
 use Rattle.ygg_sym_spec.specs.ygg_bank_proofs_Widths.{extends_self}
 use Rattle.ygg_sym_machine.specs.Means.{disk_meaning}
+use Rattle.ygg_sym_machine.specs.ygg_sym_runs.ygg_shape_joins_proofs_Joins.{joined_all_grows}
 use Rattle.ygg_sym_machine.specs.ygg_sym_runs_proofs_Cuts.{disk_stops_mean}
 use Rattle.ygg_sym_machine.specs.ygg_sym_runs_proofs_DiskKeeps.{cuts_grow}
 use Rattle.ygg_sym_machine.specs.Stopping.{IsPower}
@@ -19,4 +20,8 @@ disk_keeps_power m = record {
   lose_stands = λ right kinds inputs v s nodes p h.
       let means = disk_stops_mean inputs v kinds m.machine.disk false right m.stop m.last in
       let r = means.lose_is s nodes p h in r.has;
+  join_grows = λ kinds t a b nodes. joined_all_grows kinds t a b nodes;
+  join_stands = λ right kinds inputs v t a b nodes w p q h.
+      let means = disk_stops_mean inputs v kinds m.machine.disk false right m.stop m.last in
+      let r = means.merge_is t a b nodes w p q h in r.has;
 }

@@ -5,6 +5,7 @@ use Rattle.ygg_syntax.specs.declared.tree.Declared.{Declared}
 use Rattle.ygg_syntax.specs.declared.tree.Def.{Def}
 use Rattle.ygg_sym_machine.specs.ygg_type_rules.Definitions.{with_definitions}
 use Rattle.ygg_sym_machine.specs.ygg_meaning.Layer.{ClosedLayer}
+use Rattle.ygg_sym_machine.specs.ygg_sym_runs.ygg_shape_joins_proofs_Joins.{joined_all_grows}
 use Rattle.ygg_sym_machine.specs.ygg_sym_runs_proofs_Definitions.{functions_mean}
 use Rattle.ygg_sym_machine.specs.ygg_sym_runs_proofs_Grows.{functions_grow}
 use Rattle.ygg_sym_machine.specs.ygg_sym_runs_proofs_SpecStops.{FallsTyped, SomeBlock, spec_stops_mean}
@@ -58,4 +59,12 @@ spec_keeps_power m = record {
       let means = spec_stops_mean inputs v kinds (with_definitions defs []) (closed l) (terms_in kinds l) (functions_grow kinds (reverse defs))
       (functions_mean inputs v kinds defs serves.sound) (falls_typed defs (closed l) typed) (signatures_of (l.layer.now).operations) typed.sees m.stop m.last in
       let r = means.lose_is s nodes p h in r.has;
+  join_grows = λ kinds t a b nodes. joined_all_grows kinds t a b nodes;
+  join_stands = λ serves kinds inputs v t a b nodes w p q h.
+      let l = (m.machine).layer in
+      let defs = l.defs.now in
+      let typed = serves.typed in
+      let means = spec_stops_mean inputs v kinds (with_definitions defs []) (closed l) (terms_in kinds l) (functions_grow kinds (reverse defs))
+      (functions_mean inputs v kinds defs serves.sound) (falls_typed defs (closed l) typed) (signatures_of (l.layer.now).operations) typed.sees m.stop m.last in
+      let r = means.merge_is t a b nodes w p q h in r.has;
 }

@@ -1,7 +1,7 @@
 //! A disk whose power fails, as the machine on which a block runs.
 
 use std::alloc::Global;
-use ygg_sym_machine::{Awaited, Lows, SymDisk, SymStops, cut, lose};
+use ygg_sym_machine::{Awaited, Lows, SymDisk, SymStops, cut, join_lows, lose};
 use ygg_sym_spec::{Bank, Book, Id, NoMemory, SymLower, SymValue};
 
 /// A disk over terms whose power fails at stops.
@@ -107,6 +107,19 @@ impl SymStops for DiskStops {
         Ok(Lows {
             values: lose(alloc, self.machine.disk, &state.values)?,
         })
+    }
+
+    fn join<B: Book>(
+        &self,
+        alloc: Global,
+        bank: &mut Bank,
+        book: &B,
+        test: Id,
+        yes: &Lows,
+        no: &Lows,
+    ) -> Result<Lows, NoMemory> {
+        let values = join_lows(alloc, bank, book, test, &yes.values, &no.values)?;
+        Ok(Lows { values })
     }
 
     ghost keeps_power = { disk_keeps_power };

@@ -1,7 +1,9 @@
 //! A specification whose power fails, as the machine on which a block runs.
 
 use std::alloc::Global;
-use ygg_sym_machine::{Awaited, Bank, Book, Id, Lows, NoMemory, SymLower, SymStops, SymValue};
+use ygg_sym_machine::{
+    Awaited, Bank, Book, Id, Lows, NoMemory, SymLower, SymStops, SymValue, join_lows,
+};
 use ygg_sym_spec::{SymPicks, SymSpec, crash, fall};
 
 /// The specification of a layer over terms whose power fails at stops.
@@ -100,6 +102,19 @@ impl<'a> SymStops for SpecStops<'a> {
         let _ = bank.len();
         let picks = SymPicks::Inputs(self.last);
         let values = crash(alloc, bank, book, self.machine.layer, picks, &state.values)?;
+        Ok(Lows { values })
+    }
+
+    fn join<B: Book>(
+        &self,
+        alloc: Global,
+        bank: &mut Bank,
+        book: &B,
+        test: Id,
+        yes: &Lows,
+        no: &Lows,
+    ) -> Result<Lows, NoMemory> {
+        let values = join_lows(alloc, bank, book, test, &yes.values, &no.values)?;
         Ok(Lows { values })
     }
 

@@ -14,20 +14,32 @@ nodes_as o more new r e h = subst (λ (z : Out _). OnOk r (new ≡ z.nodes)) e h
 pub form_as : {E A : Type 0} (o more : Out A) (r : Result A E) → o ≡ more → IfOk r (λ x. x ≡ o.value) → IfOk r (λ x. x ≡ more.value)
 form_as o more r e h = subst (λ (z : Out _). IfOk r (λ x. x ≡ z.value)) e h
 
+-- one step after another
+pub second_from : {A B : Type 0} (one : Make A) (two : A → Make B) (a : A) (old mid : List Node) → a ≡ (one old).value → mid ≡ (one old).nodes →
+    two a mid ≡ and_make one two old
+second_from one two a old mid e f = cc
+
 -- what is left after the last question
-pub last_from : {S : Type 0} (lose : Make S) (merge : Id → S → S → Make S) (here stopped : Id) (fallen lost outer : S) (old one two : List Node) →
-    lost ≡ (lose old).value → one ≡ (lose old).nodes → outer ≡ (merge here lost fallen one).value → two ≡ (merge here lost fallen one).nodes →
-    merge stopped fallen outer two ≡ and_make lose (λ l. and_make (merge here l fallen) (λ y. merge stopped fallen y)) old
-last_from lose merge here stopped fallen lost outer old one two a b c d = cc
+pub last_from : {S : Type 0} (first : Make Id) (lose : Make S) (merge : Id → S → S → Make S) (ends : Id) (fallen lost : S) (old one two : List Node) →
+    ends ≡ (first old).value → one ≡ (first old).nodes → lost ≡ (lose one).value → two ≡ (lose one).nodes →
+    merge ends lost fallen two ≡ and_make first (λ h. and_make lose (λ l. merge h l fallen)) old
+last_from first lose merge ends fallen lost old one two a b c d = cc
+
+-- what is left after a question at one of whose stops power fails
+pub leaves_from : {S : Type 0} (cut lose : Make S) (merge : Id → S → S → Make S) (here within : Id) (fallen left inner lost : S)
+    (old one two three : List Node) → left ≡ (cut old).value → one ≡ (cut old).nodes → inner ≡ (merge within left fallen one).value →
+    two ≡ (merge within left fallen one).nodes → lost ≡ (lose two).value → three ≡ (lose two).nodes →
+    merge here lost inner three ≡ and_make cut (λ c. and_make (merge within c fallen) (λ x. and_make lose (λ l. merge here l x))) old
+leaves_from cut lose merge here within fallen left inner lost old one two three a b c d e f = cc
 
 -- what is left after a question
-pub left_from : {S : Type 0} (cut lose : Make S) (merge : Id → S → S → Make S) (here within stopped : Id) (fallen left inner lost outer : S)
-    (old one two three four : List Node) → left ≡ (cut old).value → one ≡ (cut old).nodes → inner ≡ (merge within left fallen one).value →
-    two ≡ (merge within left fallen one).nodes → lost ≡ (lose two).value → three ≡ (lose two).nodes → outer ≡ (merge here lost inner three).value →
-    four ≡ (merge here lost inner three).nodes →
-    merge stopped fallen outer four
-    ≡ and_make cut (λ c. and_make (merge within c fallen) (λ x. and_make lose (λ l. and_make (merge here l x) (λ y. merge stopped fallen y)))) old
-left_from cut lose merge here within stopped fallen left inner lost outer old one two three four a b c d e f g h = cc
+pub left_from : {S : Type 0} (first either : Id → Id → Make Id) (leave : Id → Id → Make S) (stopped here within outer some inner : Id)
+    (old one two three : List Node) → outer ≡ (first stopped here old).value → one ≡ (first stopped here old).nodes →
+    some ≡ (either stopped here one).value → two ≡ (either stopped here one).nodes → inner ≡ (first some within two).value →
+    three ≡ (first some within two).nodes →
+    leave outer inner three
+    ≡ and_make (first stopped here) (λ h. and_make (either stopped here) (λ s. and_make (first s within) (λ w. leave h w))) old
+left_from first either leave stopped here within outer some inner old one two three a b c d e f = cc
 
 -- a question on the machine with stops
 pub halted_from : {S : Type 0} (before within : Make Id) (leave : Id → Id → Make S) (either : Id → Id → Make Id) (handle : Make (SymHandled S))

@@ -13,7 +13,7 @@ use Rattle.ygg_sym_runs.specs.Runs.{SymQuestion}
 use Rattle.ygg_sym_runs.specs.StopTerms.{SymHalted}
 use Rattle.ygg_sym_machine.specs.Halting.{halting_meaning}
 use Rattle.ygg_sym_machine.specs.Stopping.{Power, IsPower, CanCut, CanLose}
-use Rattle.ygg_sym_machine.proofs.Standing.{ask_later, can_cut, can_lose, fallen_has, stopped_wide}
+use Rattle.ygg_sym_machine.proofs.Standing.{ask_later, can_cut, can_lose, fallen_has}
 
 module _ {S : Type 0} (M : SymMeaning S) (K : Power S) (low : IsLower M) (power : IsPower M K) (kinds : List RuleKind) where
   pub cut_has : (q : SymQuestion) (s : S) (old new : List Node) (left : S) → CanCut M K old q s → IsBank new → new ≡ (K.cut kinds q s old).nodes →
@@ -35,20 +35,18 @@ module _ {S : Type 0} (M : SymMeaning S) (K : Power S) (low : IsLower M) (power 
       let r = power.lose_stands can.serves kinds no_inputs (value_of no_inputs o.nodes) s old can.has h in
       subst (λ z. M.low.Has z left) (sym e) (subst (M.low.Has o.nodes) (sym f) r)
 
-  pub merged_has : (t : Id) (a b : S) (old new : List Node) (one : S) → CanMerge M old t a b → IsBank new → new ≡ ((M.machine kinds).merge t a b old).nodes →
-      one ≡ ((M.machine kinds).merge t a b old).value → M.low.Has new one
-  merged_has t a b old new one can bank e f =
-      let o = (M.machine kinds).merge t a b old in
+  pub joined_has : (t : Id) (a b : S) (old new : List Node) (one : S) → CanMerge M old t a b → IsBank new → new ≡ (K.join kinds t a b old).nodes →
+      one ≡ (K.join kinds t a b old).value → M.low.Has new one
+  joined_has t a b old new one can bank e f =
+      let o = K.join kinds t a b old in
       let h = some_fit o.nodes (subst IsBank e bank) in
-      let laws = low.means can.serves kinds no_inputs (value_of no_inputs o.nodes) in
-      let r = laws.merge t a b old can.test can.first_has can.second_has h in
-      subst (λ z. M.low.Has z one) (sym e) (subst (M.low.Has o.nodes) (sym f) r.has)
+      let r = power.join_stands can.serves kinds no_inputs (value_of no_inputs o.nodes) t a b old can.test can.first_has can.second_has h in
+      subst (λ z. M.low.Has z one) (sym e) (subst (M.low.Has o.nodes) (sym f) r)
 
-  pub merged_if : {E : Type 0} (t : Id) (a b : S) (old new : List Node) (r : Result S E) → CanMerge M old t a b → IsBank new →
-      OnOk r (new ≡ ((M.machine kinds).merge t a b old).nodes) → IfOk r (λ one. one ≡ ((M.machine kinds).merge t a b old).value) →
-      IfOk r (M.low.Has new)
-  merged_if t a b old new (Ok one) can bank e f = merged_has t a b old new one can bank e f
-  merged_if t a b old new (Err x) can bank e f = tt
+  pub joined_if : {E : Type 0} (t : Id) (a b : S) (old new : List Node) (r : Result S E) → CanMerge M old t a b → IsBank new →
+      OnOk r (new ≡ (K.join kinds t a b old).nodes) → IfOk r (λ one. one ≡ (K.join kinds t a b old).value) → IfOk r (M.low.Has new)
+  joined_if t a b old new (Ok one) can bank e f = joined_has t a b old new one can bank e f
+  joined_if t a b old new (Err x) can bank e f = tt
 
   module _ (q : SymQuestion) (z : SymHalted S S) (here within : Id) where
     -- after the first step
@@ -80,12 +78,12 @@ module _ {S : Type 0} (M : SymMeaning S) (K : Power S) (low : IsLower M) (power 
       pub inner_stands : M.low.Has nodes inner
 
     pub after_inner : (old new : List Node) (cut inner : S) → AfterCut old cut → IsBank new → Extends old new → KeepsSingle old new →
-        new ≡ ((M.machine kinds).merge within cut z.fallen old).nodes → inner ≡ ((M.machine kinds).merge within cut z.fallen old).value →
+        new ≡ (K.join kinds within cut z.fallen old).nodes → inner ≡ (K.join kinds within cut z.fallen old).value →
         AfterInner new inner
     after_inner old new cut inner a bank g k e f = record {
       ask = ask_later (halting_meaning M K) old new q z g k a.ask;
       here_wide = wider old new here 1 g a.here_wide;
-      inner_stands = merged_has within cut z.fallen old new inner (can_inner old cut a) bank e f;
+      inner_stands = joined_has within cut z.fallen old new inner (can_inner old cut a) bank e f;
     }
 
     -- after the third
@@ -108,17 +106,3 @@ module _ {S : Type 0} (M : SymMeaning S) (K : Power S) (low : IsLower M) (power 
     can_outer nodes inner lost a =
         let ask = a.ask in
         let st = ask.stands in record { serves = st.serves; test = a.here_wide; first_has = a.lost_stands; second_has = a.inner_stands }
-
-    -- what is left at last may be merged
-    pub can_last : (old new : List Node) (inner lost outer : S) → AfterLost old inner lost → IsBank new → Extends old new → KeepsSingle old new →
-        new ≡ ((M.machine kinds).merge here lost inner old).nodes → outer ≡ ((M.machine kinds).merge here lost inner old).value →
-        CanMerge M new z.stopped z.fallen outer
-    can_last old new inner lost outer a bank g k e f =
-        let ask = ask_later (halting_meaning M K) old new q z g k a.ask in
-        let st = ask.stands in
-        record {
-          serves = st.serves;
-          test = stopped_wide M K new q z ask;
-          first_has = fallen_has M K new q z ask;
-          second_has = merged_has here lost inner old new outer (can_outer old inner lost a) bank e f;
-        }

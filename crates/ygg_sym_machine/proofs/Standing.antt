@@ -1,15 +1,16 @@
 -- What may be asked of a machine with stops, among more nodes, and of its parts.
 use Rattle.std.proofs.Common.{◌≡◌, ◌≤◌, ℕ, List, Some, Result, Ok, Err, OnOk, IfOk, sym, ap, ◌∙◌, subst, arith}
 use Rattle.std.specs.Prelude.{min}
+use Rattle.ygg_value.specs.Words.{word}
 use Rattle.ygg_value.specs.declared.operation.Op.TheVariants.{Or}
 use Rattle.ygg_sym_runs.specs.ygg_rules.declared.rule.RuleKind.{RuleKind}
 use Rattle.ygg_sym_runs.specs.ygg_bank_proofs_Meaning.{fits_fewer}
 use Rattle.ygg_sym_runs.specs.ygg_bank_proofs_Widths.{stands, width_is}
 use Rattle.ygg_sym_runs.specs.ygg_bank.Making.{made}
-use Rattle.ygg_sym_runs.specs.ygg_bank.Nodes.{CanBin, CanPick, Extends, HasWidth, node_width, widths_of}
+use Rattle.ygg_sym_runs.specs.ygg_bank.Nodes.{CanBin, CanPick, Extends, HasWidth, node_width, width_at, widths_of}
 use Rattle.ygg_sym_runs.specs.ygg_bank.declared.node.Id.{Id}
 use Rattle.ygg_sym_runs.specs.ygg_bank.declared.node.Node.{Node}
-use Rattle.ygg_sym_runs.specs.ygg_bank.declared.node.Node.TheVariants.{Bin, Input}
+use Rattle.ygg_sym_runs.specs.ygg_bank.declared.node.Node.TheVariants.{Bin, Const, Input}
 use Rattle.ygg_sym_runs.specs.ygg_shape_words_proofs_Keeps.{picked_keeps}
 use Rattle.ygg_sym_runs.specs.ygg_shape_words.Picking.{picked}
 use Rattle.ygg_sym_runs.proofs.Singles.{input_single, single_less, single_stays}
@@ -17,7 +18,7 @@ use Rattle.ygg_sym_runs.specs.Lower as lower
 use Rattle.ygg_sym_runs.specs.Lower.{SymMeaning, CanAsk, KeepsSingle, SingleFrom}
 use Rattle.ygg_sym_runs.specs.Runs.{SymQuestion}
 use Rattle.ygg_sym_runs.specs.StopTerms.{SymHalted}
-use Rattle.ygg_sym_machine.specs.Halting.{halting_meaning}
+use Rattle.ygg_sym_machine.specs.Halting.{first_made, halting_meaning}
 use Rattle.ygg_sym_machine.specs.HaltingKeeps.{question_wider}
 use Rattle.ygg_sym_machine.specs.Stopping.{Power, CanCut, CanLose}
 
@@ -79,6 +80,23 @@ can_pick nodes t a b w p q = record {
 
 pub pick_single : (kinds : List RuleKind) (old new : List Node) (t a b : Id) → new ≡ (picked kinds t a b old).nodes → KeepsSingle old new
 pick_single kinds old new t a b e = λ first h. subst (SingleFrom first) (sym e) (picked_keeps kinds (SingleFrom first) (single_stays kinds first) t a b old h)
+
+-- one is set, and another isn't
+pub first_from : (kinds : List RuleKind) (other one never : Id) (old mid : List Node) → never ≡ (made kinds (Const (word 1 0)) old).value →
+    mid ≡ (made kinds (Const (word 1 0)) old).nodes → picked kinds other never one mid ≡ first_made kinds other one old
+first_from kinds other one never old mid e f =
+    let o = made kinds (Const (word 1 0)) old in ap (λ z. picked kinds other z one mid) e ∙ ap (picked kinds other o.value one) f
+
+pub first_wide : {E : Type 0} (old new : List Node) (a : Id) (r : Result Id E) → HasWidth old a 1 →
+    IfOk r (λ t. HasWidth new t (width_at (widths_of old) a)) → IfOk r (λ t. HasWidth new t 1)
+first_wide old new a (Ok t) p w = w ∙ ap (λ z. Some z) (width_is old a 1 p)
+first_wide old new a (Err e) p w = tt
+
+pub first_single : {E : Type 0} (kinds : List RuleKind) (old mid new : List Node) (t a b : Id) (r : Result Id E) →
+    mid ≡ (made kinds (Const (word 1 0)) old).nodes → OnOk r (new ≡ (picked kinds t a b mid).nodes) → OnOk r (KeepsSingle old new)
+first_single kinds old mid new t a b (Ok x) e f =
+    λ first h. pick_single kinds mid new t a b f first (subst (SingleFrom first) (sym e) (single_stays kinds first (Const (word 1 0)) old tt h))
+first_single kinds old mid new t a b (Err x) e f = tt
 
 -- power may fail where a state with stops stands
 pub lose_there : {S : Type 0} (M : SymMeaning S) (K : Power S) (nodes : List Node) (z : SymHalted S S) → lower.Stands (halting_meaning M K) nodes z →

@@ -3,6 +3,10 @@ use Rattle.std.specs.Prelude.{min, ℕ, List}
 use Rattle.ygg_sym_runs.specs.ygg_rules.declared.rule.RuleKind.{RuleKind}
 use Rattle.ygg_sym_runs.specs.ygg_bank_proofs_Widths.{wider}
 use Rattle.ygg_sym_runs.specs.ygg_bank.Makes.{Make, and_make, pure}
+use Rattle.ygg_value.specs.Words.{word}
+use Rattle.ygg_sym_runs.specs.ygg_bank.Making.{made}
+use Rattle.ygg_sym_runs.specs.ygg_bank.declared.node.Node.TheVariants.{Const}
+use Rattle.ygg_sym_runs.specs.ygg_shape_words.Picking.{picked}
 use Rattle.ygg_sym_runs.specs.ygg_bank.Nodes.{HasWidth}
 use Rattle.ygg_sym_runs.specs.ygg_bank.declared.node.Id.{Id}
 use Rattle.ygg_sym_runs.specs.Exprs.{SymFunctions}
@@ -16,6 +20,10 @@ use Rattle.ygg_sym_machine.specs.Stopping.{Power, stops_on}
 -- functions that make no term: steps of machines ask none
 abbrev pub no_functions : SymFunctions
 no_functions name args = pure no_term
+
+-- the term that says whether one is set, and another isn't
+abbrev pub first_made : List RuleKind → Id → Id → Make Id
+first_made kinds other one = and_make (made kinds (Const (word 1 0))) (λ never. picked kinds other never one)
 
 -- a state with stops, of its parts
 abbrev pub halted_of : {S : Type 0} → S → S → Id → SymHalted S S
@@ -51,7 +59,7 @@ module _ {S : Type 0} (M : SymMeaning S) where
   -- what is left at a stop after the last question, by the term that says whether it is set
   abbrev pub last_left_made : Power S → List RuleKind → Id → SymHalted S S → Make S
   last_left_made K kinds here z =
-      and_make (K.lose kinds z.to) (λ l. and_make ((M.machine kinds).merge here l z.fallen) (λ y. (M.machine kinds).merge z.stopped z.fallen y))
+      and_make (first_made kinds z.stopped here) (λ h. and_make (K.lose kinds z.to) (λ l. K.join kinds h l z.fallen))
 
   -- the stop after the last question of a run, what is then left, and whether a stop was reached
   abbrev pub sym_fall : Power S → List RuleKind → ℕ → SymHalted S S → Make (SymFallen S)

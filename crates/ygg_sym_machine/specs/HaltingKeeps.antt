@@ -1,5 +1,7 @@
 -- A machine with stops does what the machine itself means.
-use Rattle.std.proofs.Common.{◌≡◌, ◌+◌, ℕ, true, List, if◌then◌else◌}
+use Rattle.std.proofs.Common.{◌≡◌, ◌+◌, ℕ, true, List, if◌then◌else◌, arith}
+use Rattle.ygg_value.specs.Number.{IsWord}
+use Rattle.ygg_value.specs.Words.{word}
 use Rattle.ygg_value.specs.declared.operation.Op.TheVariants.{Or}
 use Rattle.ygg_sym_runs.specs.ygg_rules.declared.rule.RuleKind.{RuleKind}
 use Rattle.ygg_sym_runs.specs.ygg_bank_proofs_Made.{made_grows, added_there}
@@ -10,8 +12,9 @@ use Rattle.ygg_sym_runs.specs.ygg_bank.Nodes.{HasWidth, Extends}
 use Rattle.ygg_sym_runs.specs.ygg_bank.Values.{Inputs, Values}
 use Rattle.ygg_sym_runs.specs.ygg_bank.declared.node.Id.{Id}
 use Rattle.ygg_sym_runs.specs.ygg_bank.declared.node.Node.{Node}
-use Rattle.ygg_sym_runs.specs.ygg_bank.declared.node.Node.TheVariants.{Input, Bin}
+use Rattle.ygg_sym_runs.specs.ygg_bank.declared.node.Node.TheVariants.{Const, Input, Bin}
 use Rattle.ygg_sym_runs.specs.ygg_shape_words_proofs_Grows.{picked_grows}
+use Rattle.ygg_sym_runs.specs.ygg_shape_words_proofs_Terms.{made_is}
 use Rattle.ygg_sym_runs.specs.ygg_shape_words.Picking.{picked}
 use Rattle.ygg_sym_runs.specs.ygg_meaning_laws.Questions.{question_fits}
 use Rattle.ygg_sym_runs.specs.ExpressionMeaning.{Grows, Gives}
@@ -21,7 +24,7 @@ use Rattle.ygg_sym_runs.specs.Runs.{SymQuestion}
 use Rattle.ygg_sym_runs.specs.Meaning.{question_worth, is_set, QuestionShaped, IsHandled, IsLow, MachineMeans}
 use Rattle.ygg_sym_runs.specs.Lower.{SymMeaning, IsLower}
 use Rattle.ygg_sym_runs.specs.Stops.{before_at, within_at}
-use Rattle.ygg_sym_runs.specs.StopTerms.{SymHalted, Stops, sym_left, sym_halted, merge_halted}
+use Rattle.ygg_sym_runs.specs.StopTerms.{SymHalted, Stops, sym_first, sym_leaves, sym_left, sym_halted, merge_halted}
 use Rattle.ygg_sym_runs.proofs.StopParts.{either_is, one_is}
 use Rattle.ygg_sym_machine.specs.Stopping.{Power, IsPower, stops_on}
 use Rattle.ygg_sym_machine.specs.Halting.{no_functions, halted_low, halting_meaning}
@@ -43,47 +46,90 @@ module _ {S : Type 0} (M : SymMeaning S) (K : Power S) (power : IsPower M K) (se
   abbrev stops : Stops S S
   stops = stops_on M K kinds
 
+  first_grows : (other one : Id) → Grows (sym_first kinds no_functions (M.machine kinds) stops other one)
+  first_grows other one nodes =
+      let k = made kinds (Const (word 1 0)) nodes in
+      let o = picked kinds other k.value one k.nodes in
+      extends_both nodes k.nodes o.nodes (made_grows kinds (Const (word 1 0)) nodes) (picked_grows kinds other k.value one k.nodes)
+
+  first_wide : (other one : Id) (nodes : List Node) → HasWidth nodes other 1 → HasWidth nodes one 1 →
+      Gives inputs v (sym_first kinds no_functions (M.machine kinds) stops other one) nodes (λ new t. HasWidth new t 1)
+  first_wide other one nodes p q h =
+      let k = made kinds (Const (word 1 0)) nodes in
+      let o = picked kinds other k.value one k.nodes in
+      let g = made_grows kinds (Const (word 1 0)) nodes in
+      let zero : IsWord (word 1 0) = record { least = omega arith; most = omega arith; fits = omega arith } in
+      let never = made_is inputs v kinds (Const (word 1 0)) nodes zero
+      (fits_fewer inputs v k.nodes o.nodes (picked_grows kinds other k.value one k.nodes) h) in
+      let r = one_is inputs v kinds other k.value one k.nodes (wider nodes k.nodes other 1 g p) never.wide (wider nodes k.nodes one 1 g q) h in
+      r.wide
+
+  leaves_grows : (here within : Id) (q : SymQuestion) (z : SymHalted S S) → Grows (sym_leaves kinds no_functions (M.machine kinds) stops here within q z)
+  leaves_grows here within q z nodes =
+      let c = K.cut kinds q z.to nodes in
+      let x = K.join kinds within c.value z.fallen c.nodes in
+      let l = K.lose kinds z.to x.nodes in
+      let y = K.join kinds here l.value x.value l.nodes in
+      extends_both nodes c.nodes y.nodes (power.cut_grows kinds q z.to nodes)
+      (extends_both c.nodes x.nodes y.nodes (power.join_grows kinds within c.value z.fallen c.nodes)
+      (extends_both x.nodes l.nodes y.nodes (power.lose_grows kinds z.to x.nodes) (power.join_grows kinds here l.value x.value l.nodes)))
+
+  leaves_stands : (here within : Id) (q : SymQuestion) (z : SymHalted S S) (nodes : List Node) → HasWidth nodes here 1 → HasWidth nodes within 1 →
+      question_fits M.kind M.lower (question_worth v q) ≡ true → QuestionShaped nodes q → (halted_low M).Has nodes z →
+      Gives inputs v (sym_leaves kinds no_functions (M.machine kinds) stops here within q z) nodes M.low.Has
+  leaves_stands here within q z nodes wh ww fit m p h =
+      let c = K.cut kinds q z.to nodes in
+      let x = K.join kinds within c.value z.fallen c.nodes in
+      let l = K.lose kinds z.to x.nodes in
+      let y = K.join kinds here l.value x.value l.nodes in
+      let gc = power.cut_grows kinds q z.to nodes in
+      let gx = power.join_grows kinds within c.value z.fallen c.nodes in
+      let gl = power.lose_grows kinds z.to x.nodes in
+      let gy = power.join_grows kinds here l.value x.value l.nodes in
+      let h3 = fits_fewer inputs v l.nodes y.nodes gy h in
+      let h2 = fits_fewer inputs v x.nodes l.nodes gl h3 in
+      let h1 = fits_fewer inputs v c.nodes x.nodes gx h2 in
+      let to_x = extends_both nodes c.nodes x.nodes gc gx in
+      let to_l = extends_both nodes x.nodes l.nodes to_x gl in
+      let pc = power.cut_stands serves kinds inputs v q z.to nodes fit m p.0 h1 in
+      let px = power.join_stands serves kinds inputs v within c.value z.fallen c.nodes (wider nodes c.nodes within 1 gc ww) pc
+      (M.low.wider nodes c.nodes z.fallen gc p.1) h2 in
+      let pl = power.lose_stands serves kinds inputs v z.to x.nodes (M.low.wider nodes x.nodes z.to to_x p.0) h3 in
+      power.join_stands serves kinds inputs v here l.value x.value l.nodes (wider nodes l.nodes here 1 to_l wh) pl
+      (M.low.wider x.nodes l.nodes x.value gl px) h
+
   left_grows : (here within : Id) (q : SymQuestion) (z : SymHalted S S) → Grows (sym_left kinds no_functions (M.machine kinds) stops here within q z)
   left_grows here within q z nodes =
-      let c = K.cut kinds q z.to nodes in
-      let x = (M.machine kinds).merge within c.value z.fallen c.nodes in
-      let l = K.lose kinds z.to x.nodes in
-      let y = (M.machine kinds).merge here l.value x.value l.nodes in
-      let f = (M.machine kinds).merge z.stopped z.fallen y.value y.nodes in
-      extends_both nodes c.nodes f.nodes (power.cut_grows kinds q z.to nodes)
-      (extends_both c.nodes x.nodes f.nodes (laws.merge_grows within c.value z.fallen c.nodes)
-      (extends_both x.nodes l.nodes f.nodes (power.lose_grows kinds z.to x.nodes)
-      (extends_both l.nodes y.nodes f.nodes (laws.merge_grows here l.value x.value l.nodes)
-      (laws.merge_grows z.stopped z.fallen y.value y.nodes))))
+      let a = sym_first kinds no_functions (M.machine kinds) stops z.stopped here nodes in
+      let b = made kinds (Bin Or z.stopped here) a.nodes in
+      let d = sym_first kinds no_functions (M.machine kinds) stops b.value within b.nodes in
+      let f = sym_leaves kinds no_functions (M.machine kinds) stops a.value d.value q z d.nodes in
+      extends_both nodes a.nodes f.nodes (first_grows z.stopped here nodes)
+      (extends_both a.nodes b.nodes f.nodes (made_grows kinds (Bin Or z.stopped here) a.nodes)
+      (extends_both b.nodes d.nodes f.nodes (first_grows b.value within b.nodes) (leaves_grows a.value d.value q z d.nodes)))
 
   left_stands : (here within : Id) (q : SymQuestion) (z : SymHalted S S) (nodes : List Node) → HasWidth nodes here 1 → HasWidth nodes within 1 →
       question_fits M.kind M.lower (question_worth v q) ≡ true → QuestionShaped nodes q → (halted_low M).Has nodes z →
       Gives inputs v (sym_left kinds no_functions (M.machine kinds) stops here within q z) nodes M.low.Has
   left_stands here within q z nodes wh ww fit m p h =
-      let c = K.cut kinds q z.to nodes in
-      let x = (M.machine kinds).merge within c.value z.fallen c.nodes in
-      let l = K.lose kinds z.to x.nodes in
-      let y = (M.machine kinds).merge here l.value x.value l.nodes in
-      let f = (M.machine kinds).merge z.stopped z.fallen y.value y.nodes in
-      let gc = power.cut_grows kinds q z.to nodes in
-      let gx = laws.merge_grows within c.value z.fallen c.nodes in
-      let gl = power.lose_grows kinds z.to x.nodes in
-      let gy = laws.merge_grows here l.value x.value l.nodes in
-      let gf = laws.merge_grows z.stopped z.fallen y.value y.nodes in
-      let h4 = fits_fewer inputs v y.nodes f.nodes gf h in
-      let h3 = fits_fewer inputs v l.nodes y.nodes gy h4 in
-      let h2 = fits_fewer inputs v x.nodes l.nodes gl h3 in
-      let h1 = fits_fewer inputs v c.nodes x.nodes gx h2 in
-      let to_x = extends_both nodes c.nodes x.nodes gc gx in
-      let to_l = extends_both nodes x.nodes l.nodes to_x gl in
-      let to_y = extends_both nodes l.nodes y.nodes to_l gy in
-      let pc = power.cut_stands serves kinds inputs v q z.to nodes fit m p.0 h1 in
-      let px = laws.merge within c.value z.fallen c.nodes (wider nodes c.nodes within 1 gc ww) pc (M.low.wider nodes c.nodes z.fallen gc p.1) h2 in
-      let pl = power.lose_stands serves kinds inputs v z.to x.nodes (M.low.wider nodes x.nodes z.to to_x p.0) h3 in
-      let py = laws.merge here l.value x.value l.nodes (wider nodes l.nodes here 1 to_l wh) pl (M.low.wider x.nodes l.nodes x.value gl px.has) h4 in
-      let pf = laws.merge z.stopped z.fallen y.value y.nodes (wider nodes y.nodes z.stopped 1 to_y p.2) (M.low.wider nodes y.nodes z.fallen to_y p.1)
-      py.has h in
-      pf.has
+      let a = sym_first kinds no_functions (M.machine kinds) stops z.stopped here nodes in
+      let b = made kinds (Bin Or z.stopped here) a.nodes in
+      let d = sym_first kinds no_functions (M.machine kinds) stops b.value within b.nodes in
+      let f = sym_leaves kinds no_functions (M.machine kinds) stops a.value d.value q z d.nodes in
+      let ga = first_grows z.stopped here nodes in
+      let gb = made_grows kinds (Bin Or z.stopped here) a.nodes in
+      let gd = first_grows b.value within b.nodes in
+      let h3 = fits_fewer inputs v d.nodes f.nodes (leaves_grows a.value d.value q z d.nodes) h in
+      let h2 = fits_fewer inputs v b.nodes d.nodes gd h3 in
+      let h1 = fits_fewer inputs v a.nodes b.nodes gb h2 in
+      let to_b = extends_both nodes a.nodes b.nodes ga gb in
+      let to_d = extends_both nodes b.nodes d.nodes to_b gd in
+      let a_to_d = extends_both a.nodes b.nodes d.nodes gb gd in
+      let pa = first_wide z.stopped here nodes p.2 wh h1 in
+      let pb = either_is inputs v kinds z.stopped here a.nodes (wider nodes a.nodes z.stopped 1 ga p.2) (wider nodes a.nodes here 1 ga wh) h2 in
+      let pd = first_wide b.value within b.nodes pb.wide (wider nodes b.nodes within 1 to_b ww) h3 in
+      leaves_stands a.value d.value q z d.nodes (wider a.nodes d.nodes a.value 1 a_to_d pa) pd fit (question_wider nodes d.nodes q to_d m)
+      ((halted_low M).wider nodes d.nodes z to_d p) h
 
   handle_grows : (i : ℕ) (q : SymQuestion) (z : SymHalted S S) → Grows (sym_halted kinds no_functions (M.machine kinds) stops i q z)
   handle_grows i q z nodes =
@@ -146,33 +192,33 @@ module _ {S : Type 0} (M : SymMeaning S) (K : Power S) (power : IsPower M K) (se
   halted_merge_grows : (t : Id) (a b : SymHalted S S) → Grows (merge_halted kinds no_functions (M.machine kinds) stops t a b)
   halted_merge_grows t a b nodes =
       let x = (M.machine kinds).merge t a.to b.to nodes in
-      let y = (M.machine kinds).merge t a.fallen b.fallen x.nodes in
+      let y = K.join kinds t a.fallen b.fallen x.nodes in
       let z = picked kinds t a.stopped b.stopped y.nodes in
       extends_both nodes x.nodes z.nodes (laws.merge_grows t a.to b.to nodes)
-      (extends_both x.nodes y.nodes z.nodes (laws.merge_grows t a.fallen b.fallen x.nodes) (picked_grows kinds t a.stopped b.stopped y.nodes))
+      (extends_both x.nodes y.nodes z.nodes (power.join_grows kinds t a.fallen b.fallen x.nodes) (picked_grows kinds t a.stopped b.stopped y.nodes))
 
   halted_merge : (t : Id) (a b : SymHalted S S) (nodes : List Node) → HasWidth nodes t 1 → (halted_low M).Has nodes a → (halted_low M).Has nodes b →
       Gives inputs v (merge_halted kinds no_functions (M.machine kinds) stops t a b) nodes
       (IsLow inputs v (halted_low M) (if is_set v t then (halted_low M).value v a else (halted_low M).value v b))
   halted_merge t a b nodes d p q h =
       let x = (M.machine kinds).merge t a.to b.to nodes in
-      let y = (M.machine kinds).merge t a.fallen b.fallen x.nodes in
+      let y = K.join kinds t a.fallen b.fallen x.nodes in
       let z = picked kinds t a.stopped b.stopped y.nodes in
       let gx = laws.merge_grows t a.to b.to nodes in
-      let gy = laws.merge_grows t a.fallen b.fallen x.nodes in
+      let gy = power.join_grows kinds t a.fallen b.fallen x.nodes in
       let gz = picked_grows kinds t a.stopped b.stopped y.nodes in
       let to_y = extends_both nodes x.nodes y.nodes gx gy in
       let h2 = fits_fewer inputs v y.nodes z.nodes gz h in
       let h1 = fits_fewer inputs v x.nodes y.nodes gy h2 in
       let px = laws.merge t a.to b.to nodes d p.0 q.0 h1 in
-      let py = laws.merge t a.fallen b.fallen x.nodes (wider nodes x.nodes t 1 gx d) (M.low.wider nodes x.nodes a.fallen gx p.1)
+      let py = power.join_stands serves kinds inputs v t a.fallen b.fallen x.nodes (wider nodes x.nodes t 1 gx d) (M.low.wider nodes x.nodes a.fallen gx p.1)
       (M.low.wider nodes x.nodes b.fallen gx q.1) h2 in
       let pz = one_is inputs v kinds t a.stopped b.stopped y.nodes (wider nodes y.nodes t 1 to_y d) (wider nodes y.nodes a.stopped 1 to_y p.2)
       (wider nodes y.nodes b.stopped 1 to_y q.2) h in
       record {
         has = (
           M.low.wider x.nodes z.nodes x.value (extends_both x.nodes y.nodes z.nodes gy gz) px.has,
-          M.low.wider y.nodes z.nodes y.value gz py.has,
+          M.low.wider y.nodes z.nodes y.value gz py,
           pz.wide,
         );
         is = px.is;

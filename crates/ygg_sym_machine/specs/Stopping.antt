@@ -5,6 +5,8 @@ use Rattle.ygg_sym_runs.specs.ygg_meaning_laws.Questions.{question_fits}
 use Rattle.ygg_sym_runs.specs.ygg_rules.declared.rule.RuleKind.{RuleKind}
 use Rattle.ygg_sym_runs.specs.ygg_bank.Makes.{Make}
 use Rattle.ygg_sym_runs.specs.ygg_bank.Making.{made}
+use Rattle.ygg_sym_runs.specs.ygg_bank.Nodes.{HasWidth}
+use Rattle.ygg_sym_runs.specs.ygg_bank.declared.node.Id.{Id}
 use Rattle.ygg_sym_runs.specs.ygg_bank.Values.{Inputs, Values, Fits}
 use Rattle.ygg_sym_runs.specs.ygg_bank.declared.node.Node.{Node}
 use Rattle.ygg_sym_runs.specs.ygg_bank.declared.node.Node.TheVariants.{Input, Bin}
@@ -20,6 +22,8 @@ pub record Power (S : Type 0) : Type 0 where
   -- where it fails within a question, and between questions
   pub cut : List RuleKind → SymQuestion → S → Make S
   pub lose : List RuleKind → S → Make S
+  -- of what it leaves, one where a test is 1, and else another
+  pub join : List RuleKind → Id → S → S → Make S
   -- the number of the first stop's input
   pub stop : ℕ
   -- the inputs of stops and failures have this number or a greater one
@@ -32,7 +36,7 @@ module _ {S : Type 0} (M : SymMeaning S) (K : Power S) where
     bit = λ n. made kinds (Input (K.stop + n) 1);
     cut = K.cut kinds;
     lose = K.lose kinds;
-    merge = (M.machine kinds).merge;
+    merge = K.join kinds;
     either = λ a b. made kinds (Bin Or a b);
     pick = picked kinds;
   }
@@ -47,6 +51,9 @@ module _ {S : Type 0} (M : SymMeaning S) (K : Power S) where
     pub lose_grows : (kinds : List RuleKind) (s : S) → Grows (K.lose kinds s)
     pub lose_stands : M.Serves → (kinds : List RuleKind) (inputs : Inputs) (v : Values) (s : S) (nodes : List Node) → M.low.Has nodes s →
         Gives inputs v (K.lose kinds s) nodes M.low.Has
+    pub join_grows : (kinds : List RuleKind) (t : Id) (a b : S) → Grows (K.join kinds t a b)
+    pub join_stands : M.Serves → (kinds : List RuleKind) (inputs : Inputs) (v : Values) (t : Id) (a b : S) (nodes : List Node) → HasWidth nodes t 1 →
+        M.low.Has nodes a → M.low.Has nodes b → Gives inputs v (K.join kinds t a b) nodes M.low.Has
 
   -- power may fail where a state stands among the nodes
   pub record CanLose (nodes : List Node) (s : S) : Type 0 where

@@ -5,7 +5,7 @@ ghost use Rattle.ygg_sym_runs.specs.ygg_bank.Nodes.{Extends, HasWidth, IsBank};
 ghost use Rattle.ygg_sym_runs.specs.Lower.{KeepsSingle, Stands};
 ghost use Rattle.ygg_sym_machine.specs.Halting.{halted_of, halting_meaning, last_left_made, sym_fall};
 
-use crate::stopping::{before, bit, either};
+use crate::stopping::{before, bit, either, first};
 use crate::stops::SymStops;
 use std::alloc::Global;
 use ygg_sym_runs::{Bank, Book, Id, NoMemory};
@@ -82,7 +82,7 @@ fn last_left<W: SymStops, B: Book>(
 {
     // the bank's nodes stand in order
     let _ = bank.len();
+    let ends = first(bank, book, stopped, here)?;
     let lost = stops.lose(alloc, bank, book, to)?;
-    let outer = stops.merge(alloc, bank, book, here, &lost, fallen)?;
-    stops.merge(alloc, bank, book, stopped, fallen, &outer)
+    stops.join(alloc, bank, book, ends, &lost, fallen)
 }

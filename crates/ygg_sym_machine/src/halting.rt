@@ -94,7 +94,7 @@ impl<'a, W: SymStops> SymLower for Halting<'a, W> {
         let to = self.stops.merge(alloc, bank, book, test, &yes.to, &no.to)?;
         let fallen = self
             .stops
-            .merge(alloc, bank, book, test, &yes.fallen, &no.fallen)?;
+            .join(alloc, bank, book, test, &yes.fallen, &no.fallen)?;
         let stopped = pick(bank, book, test, yes.stopped, no.stopped)?;
         Ok(StopState {
             to,

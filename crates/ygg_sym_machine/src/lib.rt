@@ -17,7 +17,7 @@ pub use lower::SymDisk;
 pub use machine::handle;
 pub use power::{cut, lose};
 pub use stops::SymStops;
-pub use ygg_sym_runs::low_states::Lows;
+pub use ygg_sym_runs::low_states::{Lows, join_lows};
 pub use ygg_sym_runs::{
     Awaited, Bank, Book, Id, NoMemory, Node, SymBinding, SymFrame, SymLower, SymRunner, SymValue,
     SymValues,

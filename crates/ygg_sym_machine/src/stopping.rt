@@ -7,14 +7,14 @@ ghost use Rattle.ygg_sym_runs.specs.ygg_bank.Nodes.{Extends, HasWidth, IsBank};
 ghost use Rattle.ygg_sym_runs.specs.ygg_bank.declared.node.Node.TheVariants.{Bin, Input};
 ghost use Rattle.ygg_sym_runs.specs.Lower.{CanAsk, KeepsSingle, SingleFrom, question_of};
 ghost use Rattle.ygg_sym_runs.specs.Stops.{before_at, within_at};
-ghost use Rattle.ygg_sym_runs.specs.StopTerms.{sym_halted, sym_left};
-ghost use Rattle.ygg_sym_machine.specs.Halting.{halted_of, halting_meaning, no_functions};
+ghost use Rattle.ygg_sym_runs.specs.StopTerms.{sym_halted, sym_leaves, sym_left};
+ghost use Rattle.ygg_sym_machine.specs.Halting.{first_made, halted_of, halting_meaning, no_functions};
 ghost use Rattle.ygg_sym_machine.specs.Stopping.{stops_on};
 
 use crate::stops::SymStops;
 use std::alloc::Global;
-use ygg_sym_runs::{Awaited, Bank, Book, Id, NoMemory, Node, SymValue};
-use ygg_value::Op;
+use ygg_sym_runs::{Awaited, Bank, Book, Id, NoMemory, Node, SymValue, pick};
+use ygg_value::{Op, Word};
 
 /// The number of the stop before the question at a place. Its only error is out of memory: the number doesn't fit.
 pub fn before(place: u64) -> Result<u64, NoMemory>
@@ -79,6 +79,21 @@ pub fn either<B: Book>(bank: &mut Bank, book: &B, a: Id, b: Id) -> Result<Id, No
     bank.make(Node::Bin { op: Op::Or, a, b }, book)
 }
 
+/// The term that says whether one is set, and another isn't. Its only error is out of memory, after which the bank may have more nodes.
+pub fn first<B: Book>(bank: &mut Bank, book: &B, other: Id, one: Id) -> Result<Id, NoMemory>
+    requires other { HasWidth bank.old other 1 }
+    requires one { HasWidth bank.old one 1 }
+    ensures nodes { OnOk result (bank.new ≡ (first_made (B.kinds book.now) other one bank.old).nodes) }
+    ensures form { IfOk result (λ t. t ≡ (first_made (B.kinds book.now) other one bank.old).value) }
+    ensures width { IfOk result (λ t. HasWidth bank.new t 1) }
+    ensures grows { Extends bank.old bank.new }
+    ensures single { OnOk result (KeepsSingle bank.old bank.new) }
+    ensures bank { IsBank bank.new }
+{
+    let never = bank.make(Node::Const(Word { width: 1, bits: 0 }), book)?;
+    pick(bank, book, other, never, one)
+}
+
 /// What is left after a question whose two stops have these terms. Its only error is out of memory, after which the bank may have more nodes.
 pub fn left<W: SymStops, B: Book>(
     stops: &W,
@@ -108,11 +123,48 @@ pub fn left<W: SymStops, B: Book>(
 {
     // the bank's nodes stand in order
     let _ = bank.len();
+    let outer = first(bank, book, stopped, here)?;
+    let some = either(bank, book, stopped, here)?;
+    let inner = first(bank, book, some, within)?;
+    leaves(
+        stops, alloc, bank, book, outer, inner, question, to, fallen, stopped,
+    )
+}
+
+/// What is left after a question at one of whose two stops power fails where these terms say so. Its only error is out of memory, after which the
+/// bank may have more nodes.
+fn leaves<W: SymStops, B: Book>(
+    stops: &W,
+    alloc: Global,
+    bank: &mut Bank,
+    book: &B,
+    here: Id,
+    within: Id,
+    question: Awaited<'_>,
+    to: &W::State,
+    fallen: &W::State,
+    stopped: Id,
+) -> Result<W::State, NoMemory>
+    requires asks { CanAsk (halting_meaning (W.means stops.now) (W.power stops.now)) bank.old (question_of question) (halted_of to.now fallen.now stopped) }
+    requires here { HasWidth bank.old here 1 }
+    requires within { HasWidth bank.old within 1 }
+    ensures nodes { OnOk result (bank.new ≡ (sym_leaves (B.kinds book.now) no_functions ((W.means stops.now).machine (B.kinds book.now))
+        (stops_on (W.means stops.now) (W.power stops.now) (B.kinds book.now)) here within (question_of question.entry)
+        (halted_of to.now fallen.now stopped) bank.old).nodes) }
+    ensures form { IfOk result (λ left. left ≡ (sym_leaves (B.kinds book.now) no_functions ((W.means stops.now).machine (B.kinds book.now))
+        (stops_on (W.means stops.now) (W.power stops.now) (B.kinds book.now)) here within (question_of question.entry)
+        (halted_of to.now fallen.now stopped) bank.old).value) }
+    ensures stands { IfOk result ((W.means stops.now).low.Has bank.new) }
+    ensures grows { Extends bank.old bank.new }
+    ensures single { OnOk result (KeepsSingle bank.old bank.new) }
+    ensures bank { IsBank bank.new }
+{
+    // the bank's nodes stand in order
+    let _ = bank.len();
     let cut = stops.cut(alloc, bank, book, question, to)?;
-    let inner = stops.merge(alloc, bank, book, within, &cut, fallen)?;
+    let inner = stops.join(alloc, bank, book, within, &cut, fallen)?;
     let lost = stops.lose(alloc, bank, book, to)?;
-    let outer = stops.merge(alloc, bank, book, here, &lost, &inner)?;
-    stops.merge(alloc, bank, book, stopped, fallen, &outer)
+    stops.join(alloc, bank, book, here, &lost, &inner)
 }
 
 /// A question on a machine with stops: its answer, and what is left.

@@ -40,7 +40,8 @@ use Rattle.ygg_sym_runs.specs.Lows.{LowShaped, low_worth}
 use Rattle.ygg_sym_runs.specs.Disks.{SymCall, Read, Write, Flush, writes_where}
 use Rattle.ygg_sym_runs.specs.StopTerms.{Stops}
 use Rattle.ygg_sym_runs.specs.Cuts.{disk_loses, sync_cuts, async_cuts, kind_cuts, call_cuts, disk_cuts, disk_stops}
-use Rattle.ygg_sym_runs.proofs.Lows.{low_of, low_wider, merge_lows_grows, merge_worth}
+use Rattle.ygg_sym_runs.proofs.Lows.{low_of, low_wider}
+use Rattle.ygg_sym_runs.proofs.JoinedLows.{join_lows_grows, join_worth}
 use Rattle.ygg_sym_runs.proofs.StopMeaning.{StopsMean}
 use Rattle.ygg_sym_runs.proofs.StopParts.{either_is, one_is}
 use Rattle.ygg_sym_runs.proofs.DiskKeeps.{where_grows, cuts_grow}
@@ -163,8 +164,8 @@ module _ (inputs : Inputs) (v : Values) (kinds : List RuleKind) (d : DiskText) (
       cut_is = λ q s nodes fit shaped p h. cut_is q s nodes fit shaped p h;
       lose_grows = λ s nodes. extends_self nodes;
       lose_is = λ s nodes p h. let m = loses_so d.kind s nodes p in record { has = m.has; is = m.is };
-      merge_grows = λ t a b nodes. merge_lows_grows inputs v kinds t a b nodes;
-      merge_is = λ t a b nodes w p q h. let m = merge_worth inputs v kinds (tables_of d) t a b nodes w p q h in record { has = m.has; is = m.is };
+      merge_grows = λ t a b nodes. join_lows_grows inputs v kinds t a b nodes;
+      merge_is = λ t a b nodes w p q h. let m = join_worth inputs v kinds (tables_of d) t a b nodes w p q h in record { has = m.has; is = m.is };
       either_grows = λ a b nodes. made_grows kinds (Bin Or a b) nodes;
       either_is = λ a b nodes p q h. either_is inputs v kinds a b nodes p q h;
       pick_grows = λ t a b nodes. picked_grows kinds t a b nodes;

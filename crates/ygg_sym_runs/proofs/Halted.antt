@@ -1,6 +1,12 @@
 -- The steps of the machine with stops mean what they are to mean.
-use Rattle.std.proofs.Common.{◌≡◌, ℕ, ◌||◌, Bool, true, false, if◌then◌else◌, List, refl, ap, ◌∙◌}
+use Rattle.std.proofs.Common.{◌≡◌, ◌==◌, ℕ, ◌||◌, Bool, true, false, if◌then◌else◌, List, refl, ap, ◌∙◌, arith}
 use Rattle.ygg_sym_runs.specs.ygg_meaning.Progress.{Question}
+use Rattle.ygg_value.specs.Number.{Number, IsWord}
+use Rattle.ygg_value.specs.Words.{word}
+use Rattle.ygg_sym_runs.specs.ygg_bank_proofs_Made.{made_grows}
+use Rattle.ygg_sym_runs.specs.ygg_bank.Making.{made}
+use Rattle.ygg_sym_runs.specs.ygg_bank.declared.node.Node.TheVariants.{Const}
+use Rattle.ygg_sym_runs.specs.ygg_shape_words_proofs_Terms.{made_is}
 use Rattle.ygg_sym_runs.specs.ygg_bank_proofs_Meaning.{fits_fewer}
 use Rattle.ygg_sym_runs.specs.ygg_bank_proofs_Widths.{wider, extends_both}
 use Rattle.ygg_sym_runs.specs.ygg_bank.Nodes.{HasWidth, Extends}
@@ -20,8 +26,8 @@ use Rattle.ygg_sym_runs.specs.Runs as runs
 use Rattle.ygg_sym_runs.specs.Runs.{SymQuestion, SymMachine}
 use Rattle.ygg_sym_runs.specs.Meaning.{Low, question_worth, is_set, QuestionShaped, IsHandled, IsLow, MachineMeans}
 use Rattle.ygg_sym_runs.specs.Stops.{before_at, within_at, Halted, halted, halted_end}
-use Rattle.ygg_sym_runs.specs.StopTerms.{SymHalted, Stops, sym_left, sym_halted, merge_halted, halting_machine, sym_end}
-use Rattle.ygg_sym_runs.proofs.StopMeaning.{halted_low, StopsMean}
+use Rattle.ygg_sym_runs.specs.StopTerms.{SymHalted, Stops, sym_first, sym_leaves, sym_left, sym_halted, merge_halted, halting_machine, sym_end}
+use Rattle.ygg_sym_runs.proofs.StopMeaning.{halted_low, IsTest, StopsMean}
 
 abbrev made_of : {S B : Type 0} → S → B → Bool → Halted S B
 made_of to fallen stopped = record { to = to; fallen = fallen; stopped = stopped }
@@ -34,6 +40,18 @@ parted : {S B : Type 0} (t : Bool) (a b : S) (c d : B) (e f : Bool) →
 parted true a b c d e f = refl
 parted false a b c d e f = refl
 
+-- a stop counts where power hasn't failed before it
+first_counts : {B : Type 0} (s h w : Bool) (old lost left : B) →
+    (if (if s then false else h) then lost else (if (if s || h then false else w) then left else old))
+    ≡ (if s then old else (if h then lost else (if w then left else old)))
+first_counts true h w old lost left = refl
+first_counts false true w old lost left = refl
+first_counts false false w old lost left = refl
+
+last_counts : {B : Type 0} (s h : Bool) (old lost : B) → (if (if s then false else h) then lost else old) ≡ (if s then old else (if h then lost else old))
+last_counts true h old lost = refl
+last_counts false h old lost = refl
+
 may_wider : (old new : List Node) (q : SymQuestion) → Extends old new → QuestionShaped old q → QuestionShaped new q
 may_wider old new runs.Choice g m = m
 may_wider old new (runs.Call f xs) g m = λ k d l. some_wider old new _ g (m k d l)
@@ -41,16 +59,67 @@ may_wider old new (runs.Call f xs) g m = λ k d l. some_wider old new _ g (m k d
 module _ {S F L B : Type 0} (inputs : Inputs) (v : Values) (kinds : List RuleKind) (terms : SymFunctions) (low : Low S L) (base : Low F B) (kind : BlockKind)
     (lower : Named Signature) (M : SymMachine S) (machine : ℕ → Question → L → Handled L) (laws : MachineMeans inputs v low kind lower M machine)
     (K : Stops S F) (cut : Question → L → B) (lose : L → B) (bits : ℕ → Bool) (stops : StopsMean low base inputs v kind lower K cut lose bits) where
-  left_grows : (here within : Id) (q : SymQuestion) (z : SymHalted S F) → Grows (sym_left kinds terms M K here within q z)
-  left_grows here within q z nodes =
+  first_grows : (other one : Id) → Grows (sym_first kinds terms M K other one)
+  first_grows other one nodes =
+      let k = made kinds (Const (word 1 0)) nodes in
+      let o = K.pick other k.value one k.nodes in
+      extends_both nodes k.nodes o.nodes (made_grows kinds (Const (word 1 0)) nodes) (stops.pick_grows other k.value one k.nodes)
+
+  first_gives : (other one : Id) (nodes : List Node) → HasWidth nodes other 1 → HasWidth nodes one 1 →
+      Gives inputs v (sym_first kinds terms M K other one) nodes (IsTest v (if is_set v other then false else is_set v one))
+  first_gives other one nodes p q h =
+      let k = made kinds (Const (word 1 0)) nodes in
+      let o = K.pick other k.value one k.nodes in
+      let g = made_grows kinds (Const (word 1 0)) nodes in
+      let zero : IsWord (word 1 0) = record { least = omega arith; most = omega arith; fits = omega arith } in
+      let never = made_is inputs v kinds (Const (word 1 0)) nodes zero
+      (fits_fewer inputs v k.nodes o.nodes (stops.pick_grows other k.value one k.nodes) h) in
+      let unset : is_set v k.value ≡ false = ap (λ (n : Number). n.bits == 1) never.is in
+      let r = stops.pick_is other k.value one k.nodes (wider nodes k.nodes other 1 g p) never.wide (wider nodes k.nodes one 1 g q) h in
+      record { wide = r.wide; is = r.is ∙ ap (λ b. if is_set v other then b else is_set v one) unset }
+
+  leaves_grows : (here within : Id) (q : SymQuestion) (z : SymHalted S F) → Grows (sym_leaves kinds terms M K here within q z)
+  leaves_grows here within q z nodes =
       let c = K.cut q z.to nodes in let x = K.merge within c.value z.fallen c.nodes in let l = K.lose z.to x.nodes in let y =
       K.merge here l.value x.value l.nodes in
-      let f = K.merge z.stopped z.fallen y.value y.nodes in
-      extends_both nodes c.nodes f.nodes (stops.cut_grows q z.to nodes)
-      (extends_both c.nodes x.nodes f.nodes (stops.merge_grows within c.value z.fallen c.nodes)
-      (extends_both x.nodes l.nodes f.nodes (stops.lose_grows z.to x.nodes)
-      (extends_both l.nodes y.nodes f.nodes (stops.merge_grows here l.value x.value l.nodes)
-      (stops.merge_grows z.stopped z.fallen y.value y.nodes))))
+      extends_both nodes c.nodes y.nodes (stops.cut_grows q z.to nodes)
+      (extends_both c.nodes x.nodes y.nodes (stops.merge_grows within c.value z.fallen c.nodes)
+      (extends_both x.nodes l.nodes y.nodes (stops.lose_grows z.to x.nodes) (stops.merge_grows here l.value x.value l.nodes)))
+
+  leaves_gives : (here within : Id) (q : SymQuestion) (z : SymHalted S F) (nodes : List Node) → HasWidth nodes here 1 → HasWidth nodes within 1 →
+      question_fits kind lower (question_worth v q) ≡ true → QuestionShaped nodes q →
+      (halted_low low base).Has nodes z →
+      Gives inputs v (sym_leaves kinds terms M K here within q z) nodes (IsLow inputs v base
+      (if is_set v here then lose (low.value v z.to) else (if is_set v within then cut (question_worth v q) (low.value v z.to) else base.value v z.fallen)))
+  leaves_gives here within q z nodes wh ww fit m p h =
+      let c = K.cut q z.to nodes in let x = K.merge within c.value z.fallen c.nodes in let l = K.lose z.to x.nodes in let y =
+      K.merge here l.value x.value l.nodes in
+      let gc = stops.cut_grows q z.to nodes in let gx = stops.merge_grows within c.value z.fallen c.nodes in let gl = stops.lose_grows z.to x.nodes in
+      let gy = stops.merge_grows here l.value x.value l.nodes in
+      let h3 = fits_fewer inputs v l.nodes y.nodes gy h in
+      let h2 = fits_fewer inputs v x.nodes l.nodes gl h3 in let h1 = fits_fewer inputs v c.nodes x.nodes gx h2 in
+      let to_x = extends_both nodes c.nodes x.nodes gc gx in let to_l = extends_both nodes x.nodes l.nodes to_x gl in
+      let pc = stops.cut_is q z.to nodes fit m p.0 h1 in
+      let px = stops.merge_is within c.value z.fallen c.nodes (wider nodes c.nodes within 1 gc ww) pc.has (base.wider nodes c.nodes z.fallen gc p.1) h2 in
+      let pl = stops.lose_is z.to x.nodes (low.wider nodes x.nodes z.to to_x p.0) h3 in
+      let py = stops.merge_is here l.value x.value l.nodes (wider nodes l.nodes here 1 to_l wh) pl.has (base.wider x.nodes l.nodes x.value gl px.has) h in
+      let H = is_set v here in let W = is_set v within in
+      let old = base.value v z.fallen in let lost = lose (low.value v z.to) in
+      record {
+        has = py.has;
+        is = py.is ∙ ap (λ k. if H then k else base.value v x.value) pl.is
+            ∙ ap (λ k. if H then lost else k) px.is ∙ ap (λ k. if H then lost else (if W then k else old)) pc.is;
+      }
+
+  left_grows : (here within : Id) (q : SymQuestion) (z : SymHalted S F) → Grows (sym_left kinds terms M K here within q z)
+  left_grows here within q z nodes =
+      let a = sym_first kinds terms M K z.stopped here nodes in
+      let b = K.either z.stopped here a.nodes in
+      let d = sym_first kinds terms M K b.value within b.nodes in
+      let f = sym_leaves kinds terms M K a.value d.value q z d.nodes in
+      extends_both nodes a.nodes f.nodes (first_grows z.stopped here nodes)
+      (extends_both a.nodes b.nodes f.nodes (stops.either_grows z.stopped here a.nodes)
+      (extends_both b.nodes d.nodes f.nodes (first_grows b.value within b.nodes) (leaves_grows a.value d.value q z d.nodes)))
 
   left_gives : (here within : Id) (q : SymQuestion) (z : SymHalted S F) (nodes : List Node) → HasWidth nodes here 1 → HasWidth nodes within 1 →
       question_fits kind lower (question_worth v q) ≡ true → QuestionShaped nodes q →
@@ -58,27 +127,32 @@ module _ {S F L B : Type 0} (inputs : Inputs) (v : Values) (kinds : List RuleKin
       Gives inputs v (sym_left kinds terms M K here within q z) nodes (IsLow inputs v base (if is_set v z.stopped then base.value v z.fallen else
       (if is_set v here then lose (low.value v z.to) else (if is_set v within then cut (question_worth v q) (low.value v z.to) else base.value v z.fallen))))
   left_gives here within q z nodes wh ww fit m p h =
-      let c = K.cut q z.to nodes in let x = K.merge within c.value z.fallen c.nodes in let l = K.lose z.to x.nodes in let y =
-      K.merge here l.value x.value l.nodes in
-      let f = K.merge z.stopped z.fallen y.value y.nodes in
-      let gc = stops.cut_grows q z.to nodes in let gx = stops.merge_grows within c.value z.fallen c.nodes in let gl = stops.lose_grows z.to x.nodes in
-      let gy = stops.merge_grows here l.value x.value l.nodes in let gf = stops.merge_grows z.stopped z.fallen y.value y.nodes in
-      let h4 = fits_fewer inputs v y.nodes f.nodes gf h in let h3 = fits_fewer inputs v l.nodes y.nodes gy h4 in
-      let h2 = fits_fewer inputs v x.nodes l.nodes gl h3 in let h1 = fits_fewer inputs v c.nodes x.nodes gx h2 in
-      let to_x = extends_both nodes c.nodes x.nodes gc gx in let to_l = extends_both nodes x.nodes l.nodes to_x gl in let to_y =
-      extends_both nodes l.nodes y.nodes to_l gy in
-      let pc = stops.cut_is q z.to nodes fit m p.0 h1 in
-      let px = stops.merge_is within c.value z.fallen c.nodes (wider nodes c.nodes within 1 gc ww) pc.has (base.wider nodes c.nodes z.fallen gc p.1) h2 in
-      let pl = stops.lose_is z.to x.nodes (low.wider nodes x.nodes z.to to_x p.0) h3 in
-      let py = stops.merge_is here l.value x.value l.nodes (wider nodes l.nodes here 1 to_l wh) pl.has (base.wider x.nodes l.nodes x.value gl px.has) h4 in
-      let pf = stops.merge_is z.stopped z.fallen y.value y.nodes (wider nodes y.nodes z.stopped 1 to_y p.2)
-      (base.wider nodes y.nodes z.fallen to_y p.1) py.has h in
+      let a = sym_first kinds terms M K z.stopped here nodes in
+      let b = K.either z.stopped here a.nodes in
+      let d = sym_first kinds terms M K b.value within b.nodes in
+      let f = sym_leaves kinds terms M K a.value d.value q z d.nodes in
+      let ga = first_grows z.stopped here nodes in
+      let gb = stops.either_grows z.stopped here a.nodes in
+      let gd = first_grows b.value within b.nodes in
+      let gf = leaves_grows a.value d.value q z d.nodes in
+      let h3 = fits_fewer inputs v d.nodes f.nodes gf h in
+      let h2 = fits_fewer inputs v b.nodes d.nodes gd h3 in
+      let h1 = fits_fewer inputs v a.nodes b.nodes gb h2 in
+      let to_b = extends_both nodes a.nodes b.nodes ga gb in
+      let to_d = extends_both nodes b.nodes d.nodes to_b gd in
+      let a_to_d = extends_both a.nodes b.nodes d.nodes gb gd in
+      let pa = first_gives z.stopped here nodes p.2 wh h1 in
+      let pb = stops.either_is z.stopped here a.nodes (wider nodes a.nodes z.stopped 1 ga p.2) (wider nodes a.nodes here 1 ga wh) h2 in
+      let pd = first_gives b.value within b.nodes pb.wide (wider nodes b.nodes within 1 to_b ww) h3 in
+      let pf = leaves_gives a.value d.value q z d.nodes (wider a.nodes d.nodes a.value 1 a_to_d pa.wide) pd.wide fit (may_wider nodes d.nodes q to_d m)
+      ((halted_low low base).wider nodes d.nodes z to_d p) h in
       let s = is_set v z.stopped in let H = is_set v here in let W = is_set v within in
-      let old = base.value v z.fallen in let lost = lose (low.value v z.to) in
+      let old = base.value v z.fallen in let lost = lose (low.value v z.to) in let left = cut (question_worth v q) (low.value v z.to) in
       record {
         has = pf.has;
-        is = pf.is ∙ ap (λ k. if s then old else k) py.is ∙ ap (λ k. if s then old else (if H then k else base.value v x.value)) pl.is
-            ∙ ap (λ k. if s then old else (if H then lost else k)) px.is ∙ ap (λ k. if s then old else (if H then lost else (if W then k else old))) pc.is;
+        is = pf.is ∙ ap (λ k. if k then lost else (if is_set v d.value then left else old)) pa.is
+            ∙ ap (λ k. if (if s then false else H) then lost else (if k then left else old)) pd.is
+            ∙ ap (λ k. if (if s then false else H) then lost else (if (if k then false else W) then left else old)) pb.is ∙ first_counts s H W old lost left;
       }
 
   handle_grows : (i : ℕ) (q : SymQuestion) (z : SymHalted S F) → Grows (sym_halted kinds terms M K i q z)
@@ -157,31 +231,40 @@ module _ {S F L B : Type 0} (inputs : Inputs) (v : Values) (kinds : List RuleKin
 
   pub end_grows : (last : ℕ) (z : SymHalted S F) → Grows (sym_end kinds terms M K last z)
   end_grows last z nodes =
-      let a = K.bit (before_at last) nodes in let l = K.lose z.to a.nodes in let y = K.merge a.value l.value z.fallen l.nodes in let f =
-      K.merge z.stopped z.fallen y.value y.nodes in
-      extends_both nodes a.nodes f.nodes (stops.bit_grows (before_at last) nodes) (extends_both a.nodes l.nodes f.nodes (stops.lose_grows z.to a.nodes)
-      (extends_both l.nodes y.nodes f.nodes (stops.merge_grows a.value l.value z.fallen l.nodes) (stops.merge_grows z.stopped z.fallen y.value y.nodes)))
+      let a = K.bit (before_at last) nodes in
+      let w = sym_first kinds terms M K z.stopped a.value a.nodes in
+      let l = K.lose z.to w.nodes in
+      let y = K.merge w.value l.value z.fallen l.nodes in
+      extends_both nodes a.nodes y.nodes (stops.bit_grows (before_at last) nodes)
+      (extends_both a.nodes w.nodes y.nodes (first_grows z.stopped a.value a.nodes)
+      (extends_both w.nodes l.nodes y.nodes (stops.lose_grows z.to w.nodes) (stops.merge_grows w.value l.value z.fallen l.nodes)))
 
   pub end_gives : (last : ℕ) (z : SymHalted S F) (nodes : List Node) → (halted_low low base).Has nodes z →
       Gives inputs v (sym_end kinds terms M K last z) nodes (IsLow inputs v base (halted_end machine cut lose bits last ((halted_low low base).value v z)))
   end_gives last z nodes p h =
-      let a = K.bit (before_at last) nodes in let l = K.lose z.to a.nodes in let y = K.merge a.value l.value z.fallen l.nodes in let f =
-      K.merge z.stopped z.fallen y.value y.nodes in
-      let ga = stops.bit_grows (before_at last) nodes in let gl = stops.lose_grows z.to a.nodes in let gy =
-      stops.merge_grows a.value l.value z.fallen l.nodes in
-      let gf = stops.merge_grows z.stopped z.fallen y.value y.nodes in
-      let h3 = fits_fewer inputs v y.nodes f.nodes gf h in let h2 = fits_fewer inputs v l.nodes y.nodes gy h3 in let h1 =
-      fits_fewer inputs v a.nodes l.nodes gl h2 in
-      let to_l = extends_both nodes a.nodes l.nodes ga gl in let to_y = extends_both nodes l.nodes y.nodes to_l gy in
+      let a = K.bit (before_at last) nodes in
+      let w = sym_first kinds terms M K z.stopped a.value a.nodes in
+      let l = K.lose z.to w.nodes in
+      let y = K.merge w.value l.value z.fallen l.nodes in
+      let ga = stops.bit_grows (before_at last) nodes in
+      let gw = first_grows z.stopped a.value a.nodes in
+      let gl = stops.lose_grows z.to w.nodes in
+      let gy = stops.merge_grows w.value l.value z.fallen l.nodes in
+      let h3 = fits_fewer inputs v l.nodes y.nodes gy h in
+      let h2 = fits_fewer inputs v w.nodes l.nodes gl h3 in
+      let h1 = fits_fewer inputs v a.nodes w.nodes gw h2 in
+      let to_w = extends_both nodes a.nodes w.nodes ga gw in
+      let to_l = extends_both nodes w.nodes l.nodes to_w gl in
       let pa = stops.bit_is (before_at last) nodes h1 in
-      let pl = stops.lose_is z.to a.nodes (low.wider nodes a.nodes z.to ga p.0) h2 in
-      let py = stops.merge_is a.value l.value z.fallen l.nodes (wider a.nodes l.nodes a.value 1 gl pa.wide) pl.has
-      (base.wider nodes l.nodes z.fallen to_l p.1) h3 in
-      let pf = stops.merge_is z.stopped z.fallen y.value y.nodes (wider nodes y.nodes z.stopped 1 to_y p.2)
-      (base.wider nodes y.nodes z.fallen to_y p.1) py.has h in
+      let pw = first_gives z.stopped a.value a.nodes (wider nodes a.nodes z.stopped 1 ga p.2) pa.wide h2 in
+      let pl = stops.lose_is z.to w.nodes (low.wider nodes w.nodes z.to to_w p.0) h3 in
+      let py = stops.merge_is w.value l.value z.fallen l.nodes (wider w.nodes l.nodes w.value 1 gl pw.wide) pl.has
+      (base.wider nodes l.nodes z.fallen to_l p.1) h in
       let s = is_set v z.stopped in let old = base.value v z.fallen in
       record {
-        has = pf.has;
-        is = pf.is ∙ ap (λ k. if s then old else k) py.is ∙ ap (λ k. if s then old else (if k then base.value v l.value else old)) pa.is
-            ∙ ap (λ k. if s then old else (if bits (before_at last) then k else old)) pl.is;
+        has = py.has;
+        is = py.is ∙ ap (λ k. if k then base.value v l.value else old) pw.is
+            ∙ ap (λ k. if (if s then false else k) then base.value v l.value else old) pa.is
+            ∙ ap (λ k. if (if s then false else bits (before_at last)) then k else old) pl.is
+            ∙ last_counts s (bits (before_at last)) old (lose (low.value v z.to));
       }

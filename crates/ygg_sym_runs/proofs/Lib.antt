@@ -40,6 +40,7 @@ pub mod Nexts
 pub mod Sizes
 pub mod Rooms
 pub mod Lows
+pub mod JoinedLows
 pub mod DiskKeeps
 pub mod Disks
 pub mod Placed

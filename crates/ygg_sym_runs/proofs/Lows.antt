@@ -40,7 +40,7 @@ low_of ds = record {
   wider = λ old new xs g h. low_wider old new ds xs g h;
 }
 
-bind_if : (c : Bool) (d : Declared) (a b : Value) (xs ys : Env) →
+pub bind_if : (c : Bool) (d : Declared) (a b : Value) (xs ys : Env) →
     (d.name.text, (if c then a else b)) ∷ (if c then xs else ys) ≡ (if c then (d.name.text, a) ∷ xs else (d.name.text, b) ∷ ys)
 bind_if true d a b xs ys = refl
 bind_if false d a b xs ys = refl
@@ -49,7 +49,7 @@ based_if : (c : Bool) (xs ys : Env) → based (if c then xs else ys) ≡ (if c t
 based_if true xs ys = refl
 based_if false xs ys = refl
 
-same_if : (c : Bool) (e : Env) → e ≡ (if c then e else e)
+pub same_if : (c : Bool) (e : Env) → e ≡ (if c then e else e)
 same_if true e = refl
 same_if false e = refl
 

@@ -34,6 +34,7 @@ use Rattle.ygg_sym_runs.specs.SpecCuts.{
 use Rattle.ygg_sym_runs.specs.Specs.{sym_chooser, input_pick}
 use Rattle.ygg_sym_runs.proofs.Chosen.{room}
 use Rattle.ygg_sym_runs.proofs.MadeInputs.{fresh_below, lows_keep, chooser_keeps, whole_keeps}
+use Rattle.ygg_sym_runs.proofs.JoinedLows.{joins_keep}
 use Rattle.ygg_sym_runs.proofs.SpecFalls.{among}
 use Rattle.ygg_sym_runs.proofs.StopKeeps.{StopsKeep}
 
@@ -101,7 +102,7 @@ spec_stops_below kinds terms m first last most next keep l few = record {
   bit = λ n k nodes p. fresh_below kinds (first + n) next (omega (arith, l, k)) nodes p;
   cut = λ q s nodes p. cuts_keep kinds (InputsBelow next) (inputs_stay kinds next) terms keep m (input_pick kinds last) fresh q s nodes p;
   lose = λ s nodes p. lose_keeps kinds (InputsBelow next) (inputs_stay kinds next) terms keep m (input_pick kinds last) fresh s nodes p;
-  merge = λ t a b nodes p. lows_keep kinds (InputsBelow next) (inputs_stay kinds next) t a b nodes p;
+  merge = λ t a b nodes p. joins_keep kinds (InputsBelow next) (inputs_stay kinds next) t a b nodes p;
   either = λ a b nodes p. inputs_stay kinds next (Bin Or a b) nodes tt p;
   pick = λ t a b nodes p. picked_keeps kinds (InputsBelow next) (inputs_stay kinds next) t a b nodes p;
 }

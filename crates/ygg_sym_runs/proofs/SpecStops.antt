@@ -46,6 +46,7 @@ use Rattle.ygg_sym_runs.specs.Specs.{input_pick}
 use Rattle.ygg_sym_runs.proofs.Blocks.{BlockOfSpec, block_made_grows, block_made_gives}
 use Rattle.ygg_sym_runs.proofs.Chosen.{room}
 use Rattle.ygg_sym_runs.proofs.Lows.{low_of, low_wider, merge_lows_grows, merge_worth}
+use Rattle.ygg_sym_runs.proofs.JoinedLows.{join_lows_grows, join_worth}
 use Rattle.ygg_sym_runs.proofs.SpecFalls.{bits_after, crash_end, then_end, fall_end, drop_end, lose_end, cut_end}
 use Rattle.ygg_sym_runs.proofs.Specs.{PickMeans, input_pick_means}
 use Rattle.ygg_sym_runs.proofs.StopMeaning.{StopsMean}
@@ -222,9 +223,9 @@ module _ (inputs : Inputs) (v : Values) (kinds : List RuleKind) (defs : Named Si
         cut_is = λ q s nodes may shaped p h. cuts_give pick bits picks q s nodes may shaped p h;
         lose_grows = λ s nodes. crash_grows pick bits picks s nodes;
         lose_is = λ s nodes p h. crash_gives pick bits picks s nodes p h;
-        merge_grows = λ t a b nodes. merge_lows_grows inputs v kinds t a b nodes;
+        merge_grows = λ t a b nodes. join_lows_grows inputs v kinds t a b nodes;
         merge_is = λ t a b nodes w p q h.
-            let r = merge_worth inputs v kinds m.layer.state t a b nodes w p q h in record { has = r.has; is = r.is };
+            let r = join_worth inputs v kinds m.layer.state t a b nodes w p q h in record { has = r.has; is = r.is };
         either_grows = λ a b nodes. made_grows kinds (Bin Or a b) nodes;
         either_is = λ a b nodes p q h. either_is inputs v kinds a b nodes p q h;
         pick_grows = λ t a b nodes. picked_grows kinds t a b nodes;

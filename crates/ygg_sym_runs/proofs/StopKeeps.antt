@@ -19,10 +19,11 @@ use Rattle.ygg_sym_runs.proofs.Keeps.{Keeps, FunctionsKeep}
 use Rattle.ygg_sym_runs.specs.Runs.{SymQuestion, Choice, Call, SymMachine, sym_run}
 use Rattle.ygg_sym_runs.proofs.Below.{asked_space, MachineKeeps, run_keeps}
 use Rattle.ygg_sym_runs.specs.Stops.{before_at, within_at}
-use Rattle.ygg_sym_runs.specs.StopTerms.{SymHalted, Stops, sym_left, sym_halted, merge_halted, halting_machine, sym_end, stop_whole}
+use Rattle.ygg_sym_runs.specs.StopTerms.{SymHalted, Stops, sym_first, sym_leaves, sym_left, sym_halted, merge_halted, halting_machine, sym_end, stop_whole}
 use Rattle.ygg_sym_runs.specs.Cuts.{disk_stops}
 use Rattle.ygg_sym_runs.proofs.DiskKeeps.{cuts_keep}
-use Rattle.ygg_sym_runs.proofs.MadeInputs.{fresh_below, lows_keep}
+use Rattle.ygg_sym_runs.proofs.MadeInputs.{fresh_below}
+use Rattle.ygg_sym_runs.proofs.JoinedLows.{joins_keep}
 
 -- what holds of nodes stays at each of so many stops, and at what they leave
 pub record StopsKeep {S F : Type 0} (P : List Node → Type 0) (most : ℕ) (K : Stops S F) : Type 0 where
@@ -36,14 +37,24 @@ pub record StopsKeep {S F : Type 0} (P : List Node → Type 0) (most : ℕ) (K :
 module _ {S F : Type 0} (kinds : List RuleKind) (P : List Node → Type 0) (stays : Stays kinds P) (terms : SymFunctions) (keep : FunctionsKeep P terms)
     (M : SymMachine S) (top : ℕ) (laws : MachineKeeps P top M) (K : Stops S F) (cuts : StopsKeep P (2 * top + 1) K)
     (one : (q : SymQuestion) → 1 ≤ asked_space M.space q) where
-  left_keeps : (here within : Id) (q : SymQuestion) (z : SymHalted S F) → Keeps P (sym_left kinds terms M K here within q z)
-  left_keeps here within q z nodes p =
+  first_keeps : (other one : Id) → Keeps P (sym_first kinds terms M K other one)
+  first_keeps other one nodes p =
+      let never = made kinds (Const (word 1 0)) nodes in cuts.pick other never.value one never.nodes (stays (Const (word 1 0)) nodes tt p)
+
+  leaves_keeps : (here within : Id) (q : SymQuestion) (z : SymHalted S F) → Keeps P (sym_leaves kinds terms M K here within q z)
+  leaves_keeps here within q z nodes p =
       let c = K.cut q z.to nodes in
       let x = K.merge within c.value z.fallen c.nodes in
       let l = K.lose z.to x.nodes in
-      let y = K.merge here l.value x.value l.nodes in
-      cuts.merge z.stopped z.fallen y.value y.nodes
-      (cuts.merge here l.value x.value l.nodes (cuts.lose z.to x.nodes (cuts.merge within c.value z.fallen c.nodes (cuts.cut q z.to nodes p))))
+      cuts.merge here l.value x.value l.nodes (cuts.lose z.to x.nodes (cuts.merge within c.value z.fallen c.nodes (cuts.cut q z.to nodes p)))
+
+  left_keeps : (here within : Id) (q : SymQuestion) (z : SymHalted S F) → Keeps P (sym_left kinds terms M K here within q z)
+  left_keeps here within q z nodes p =
+      let h = sym_first kinds terms M K z.stopped here nodes in
+      let some = K.either z.stopped here h.nodes in
+      let w = sym_first kinds terms M K some.value within some.nodes in
+      leaves_keeps h.value w.value q z w.nodes
+      (first_keeps some.value within some.nodes (cuts.either z.stopped here h.nodes (first_keeps z.stopped here nodes p)))
 
   halted_keeps : (i : ℕ) (q : SymQuestion) (z : SymHalted S F) → i + asked_space M.space q ≤ top → Keeps P (sym_halted kinds terms M K i q z)
   halted_keeps i q z l nodes p =
@@ -72,11 +83,10 @@ module _ {S F : Type 0} (kinds : List RuleKind) (P : List Node → Type 0) (stay
   end_keeps : (last : ℕ) (z : SymHalted S F) → last ≤ top → Keeps P (sym_end kinds terms M K last z)
   end_keeps last z l nodes p =
       let h = K.bit (before_at last) nodes in
-      let f = K.lose z.to h.nodes in
-      let y = K.merge h.value f.value z.fallen f.nodes in
+      let w = sym_first kinds terms M K z.stopped h.value h.nodes in
+      let f = K.lose z.to w.nodes in
       let m : before_at last < 2 * top + 1 = omega (arith, l) in
-      cuts.merge z.stopped z.fallen y.value y.nodes
-      (cuts.merge h.value f.value z.fallen f.nodes (cuts.lose z.to h.nodes (cuts.bit (before_at last) m nodes p)))
+      cuts.merge w.value f.value z.fallen f.nodes (cuts.lose z.to w.nodes (first_keeps z.stopped h.value h.nodes (cuts.bit (before_at last) m nodes p)))
 
   -- a run that power cuts, of a block that has no more places
   pub fallen_keeps : (last : ℕ) (b : Block) (vars args : SymEnv) (from : S) (other : F) → last ≤ top → room_of M.space b ≤ top →
@@ -102,7 +112,7 @@ disk_stops_keep kinds P stays kind first last most stop fails = record {
   bit = λ n l nodes p. stop n l nodes p;
   cut = λ q s nodes p. cuts_keep kinds P stays last fails kind q s nodes p;
   lose = λ s nodes p. p;
-  merge = λ t a b nodes p. lows_keep kinds P stays t a b nodes p;
+  merge = λ t a b nodes p. joins_keep kinds P stays t a b nodes p;
   either = λ a b nodes p. stays (Bin Or a b) nodes tt p;
   pick = λ t a b nodes p. picked_keeps kinds P stays t a b nodes p;
 }

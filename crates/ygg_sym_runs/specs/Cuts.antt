@@ -10,7 +10,7 @@ use Rattle.ygg_sym_runs.specs.ygg_bank.declared.node.Node.TheVariants.{Input, Bi
 use Rattle.ygg_sym_runs.specs.ygg_shape_words.Picking.{picked}
 use Rattle.ygg_sym_runs.specs.ygg_shape_cells.declared.terms.SymValue.{SymValue}
 use Rattle.ygg_sym_runs.specs.Runs.{SymQuestion, Choice, Call}
-use Rattle.ygg_sym_runs.specs.Lows.{merge_lows}
+use Rattle.ygg_sym_runs.specs.Lows.{join_lows}
 use Rattle.ygg_sym_runs.specs.Disks.{SymCall, Read, Write, Flush, sym_call, writes_where}
 use Rattle.ygg_sym_runs.specs.StopTerms.{Stops}
 
@@ -58,7 +58,7 @@ module _ (kinds : List RuleKind) where
     bit = λ n. made kinds (Input (first + n) 1);
     cut = disk_cuts kind last;
     lose = λ tables. pure (disk_loses kind tables);
-    merge = merge_lows kinds;
+    merge = join_lows kinds;
     either = λ a b. made kinds (Bin Or a b);
     pick = picked kinds;
   }

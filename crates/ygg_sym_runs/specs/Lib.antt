@@ -50,6 +50,10 @@ pub use Rattle.ygg_shape.specs.ygg_shape_cells_proofs_Keeps
 pub use Rattle.ygg_shape.specs.ygg_shape_cells_proofs_Makers
 pub use Rattle.ygg_shape.specs.ygg_shape_cells_proofs_Wider
 pub use Rattle.ygg_shape.specs.ygg_shape_cells_proofs_Worth
+pub use Rattle.ygg_shape_joins.proofs.Joins as ygg_shape_joins_proofs_Joins
+pub use Rattle.ygg_shape_joins.proofs.JoinedAnswers as ygg_shape_joins_proofs_JoinedAnswers
+pub use Rattle.ygg_shape_joins.proofs.JoinedWorth as ygg_shape_joins_proofs_JoinedWorth
+pub use Rattle.ygg_shape_joins.specs as ygg_shape_joins
 pub use Rattle.ygg_shape.specs.ygg_shape_words
 pub use Rattle.ygg_shape.specs.ygg_shape_words_proofs_Fit
 pub use Rattle.ygg_shape.specs.ygg_shape_words_proofs_Grows

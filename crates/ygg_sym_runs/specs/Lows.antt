@@ -13,6 +13,7 @@ use Rattle.ygg_sym_runs.specs.ygg_shape_cells.Making.{merged}
 use Rattle.ygg_sym_runs.specs.ygg_shape_cells.Terms.{worth}
 use Rattle.ygg_sym_runs.specs.ygg_shape_cells.declared.terms.SymValue.{SymValue}
 use Rattle.ygg_sym_runs.specs.ygg_shape_cells.Terms.{IsShaped}
+use Rattle.ygg_sym_runs.specs.ygg_shape_joins.Joining.{joined}
 
 -- there is a value for each declared name, of its shape, whose terms stand among the nodes
 abbrev pub LowShaped : List Node → List Declared → List SymValue → Type 0
@@ -27,3 +28,7 @@ low_worth v ds xs = bind ds (map (worth v) xs)
 -- one of two states by a test, value by value
 abbrev pub merge_lows : List RuleKind → Id → List SymValue → List SymValue → Make (List SymValue)
 merge_lows kinds t = each_two (merged kinds t)
+
+-- the same, where picks of one word under two tests are one pick
+abbrev pub join_lows : List RuleKind → Id → List SymValue → List SymValue → Make (List SymValue)
+join_lows kinds t = each_two (joined kinds t)

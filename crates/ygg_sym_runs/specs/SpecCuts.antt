@@ -15,7 +15,7 @@ use Rattle.ygg_sym_runs.specs.ygg_meaning_laws.Direct.{room_of, total}
 use Rattle.ygg_sym_runs.specs.Names.{SymEnv, sym_bind}
 use Rattle.ygg_sym_runs.specs.Exprs.{SymFunctions}
 use Rattle.ygg_sym_runs.specs.Runs.{SymQuestion, Choice, Call}
-use Rattle.ygg_sym_runs.specs.Lows.{merge_lows}
+use Rattle.ygg_sym_runs.specs.Lows.{join_lows, merge_lows}
 use Rattle.ygg_sym_runs.specs.Disks.{Done, done}
 use Rattle.ygg_sym_runs.specs.Wholes.{sym_whole}
 use Rattle.ygg_sym_runs.specs.Specs.{sym_chooser, input_pick}
@@ -69,7 +69,7 @@ module _ (kinds : List RuleKind) (terms : SymFunctions) (m : ClosedLayer) where
     bit = λ n. made kinds (Input (first + n) 1);
     cut = spec_cuts (input_pick kinds last);
     lose = crash_made (input_pick kinds last);
-    merge = merge_lows kinds;
+    merge = join_lows kinds;
     either = λ a b. made kinds (Bin Or a b);
     pick = picked kinds;
   }

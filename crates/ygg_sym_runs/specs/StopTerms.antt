@@ -33,12 +33,21 @@ pub record Stops (S F : Type 0) : Type 0 where
   pub pick : Id → Id → Id → Make Id
 
 module _ {S F : Type 0} (kinds : List RuleKind) (terms : SymFunctions) (M : SymMachine S) (K : Stops S F) where
+  -- the term that says whether one is set, and another isn't
+  abbrev pub sym_first : Id → Id → Make Id
+  sym_first other one = and_make (made kinds (Const (word 1 0))) (λ never. K.pick other never one)
+
+  -- what is left after a question at one of whose two stops power fails where these terms say so, of which one at most is set: what a stop before
+  -- it leaves, or what one within it leaves, and else what was left before
+  abbrev pub sym_leaves : Id → Id → SymQuestion → SymHalted S F → Make F
+  sym_leaves here within q z =
+      and_make (K.cut q z.to) (λ c. and_make (K.merge within c z.fallen) (λ x. and_make (K.lose z.to) (λ l. K.merge here l x)))
+
   -- what is left after a question whose two stops have these terms: what was left before where power had failed, else what a stop before it leaves,
   -- else what one within it leaves
   abbrev pub sym_left : Id → Id → SymQuestion → SymHalted S F → Make F
   sym_left here within q z =
-      and_make (K.cut q z.to) (λ c. and_make (K.merge within c z.fallen)
-      (λ x. and_make (K.lose z.to) (λ l. and_make (K.merge here l x) (λ y. K.merge z.stopped z.fallen y))))
+      and_make (sym_first z.stopped here) (λ h. and_make (K.either z.stopped here) (λ some. and_make (sym_first some within) (λ w. sym_leaves h w q z)))
 
   -- a question on the machine with stops: the machine goes on, and beside its state stands what the first stop that is set leaves
   abbrev pub sym_halted : ℕ → SymQuestion → SymHalted S F → Make (SymHandled (SymHalted S F))
@@ -59,7 +68,7 @@ module _ {S F : Type 0} (kinds : List RuleKind) (terms : SymFunctions) (M : SymM
 
   -- the stop after the last question
   abbrev pub sym_end : ℕ → SymHalted S F → Make F
-  sym_end last z = and_make (K.bit (before_at last)) (λ h. and_make (K.lose z.to) (λ l. and_make (K.merge h l z.fallen) (λ y. K.merge z.stopped z.fallen y)))
+  sym_end last z = and_make (K.bit (before_at last)) (λ here. and_make (sym_first z.stopped here) (λ h. and_make (K.lose z.to) (λ l. K.merge h l z.fallen)))
 
   -- what is left of a run of the block
   abbrev pub stop_sym : ℕ → Block → SymEnv → SymHalted S F → Make F

@@ -1,137 +1,66 @@
+use Rattle.ygg_value.specs.declared.operation.Op.TheVariants.{Or}
+use Rattle.ygg_sym_runs.specs.ygg_bank.Making.{made}
+use Rattle.ygg_sym_runs.specs.ygg_bank.declared.node.Node.TheVariants.{Bin}
+use Rattle.ygg_sym_runs.specs.ygg_bank_proofs_Widths.{extends_both, wider}
 use Rattle.ygg_sym_runs.specs.Lower.{question_of}
-use Rattle.ygg_sym_machine.specs.Halting.{halted_of, no_functions}
-use Rattle.ygg_sym_machine.proofs.Leaving.{after_cut, after_inner, after_lost, can_inner, can_last, can_outer, merged_if}
-use Rattle.ygg_sym_machine.proofs.Standing.{can_lose, single_both, single_if}
-use Rattle.ygg_sym_runs.specs.ygg_bank_proofs_Widths.{extends_both}
-use Rattle.ygg_sym_runs.specs.StopTerms.{sym_left}
+use Rattle.ygg_sym_runs.specs.StopTerms.{sym_leaves, sym_left}
+use Rattle.ygg_sym_machine.specs.Halting.{first_made, halted_of, halting_meaning, no_functions}
 use Rattle.ygg_sym_machine.specs.Stopping.{stops_on}
-use Rattle.ygg_sym_machine.proofs.Chains.{form_as, left_from, nodes_as}
-use Rattle.std.proofs.lemmas.Result.{IfOk-from_err}
 use Rattle.ygg_sym_machine.proofs.Calls.{on_ok_refused}
+use Rattle.ygg_sym_machine.proofs.Chains.{form_as, left_from, nodes_as}
+use Rattle.ygg_sym_machine.proofs.Standing.{ask_later, single_both, single_if, stopped_wide}
+use Rattle.std.proofs.lemmas.Result.{IfOk-from_err}
 use Rattle.ygg_sym_machine.proofs.stopping.left.Goals as goal
 
-pub merge-requires : goal.merge-requires
-merge-requires g c =
+pub first-requires-clause-other : goal.first-requires-clause-other
+first-requires-clause-other g c =
     let M = g.W.SymLower.means c.args.stops.now in
     let K = g.W.SymStops.power c.args.stops.now in
-    let low = g.met.W.SymLower.keeps c.args.stops.now in
-    let power = g.met.W.SymStops.keeps_power c.args.stops.now in
-    let kinds = g.B.Book.kinds c.args.book.now in
-    let q = question_of c.args.question in
     let z = halted_of c.args.to.now c.args.fallen.now c.args.stopped in
-    let one = after_cut M K low power kinds q z c.args.here c.args.within c.args.bank.now c.cut.new.bank c.in_ok-cut.cut c.requires.asks
-    c.requires.here c.requires.within
-    c.cut.ensures.bank c.cut.ensures.grows c.in_ok-cut.ensures.single c.in_ok-cut.ensures.nodes c.in_ok-cut.ensures.form in
-    record { merges = can_inner M K low power kinds q z c.args.here c.args.within c.cut.new.bank c.in_ok-cut.cut one }
+    stopped_wide M K c.args.bank.now (question_of c.args.question) z c.requires.asks
 
-pub lose-requires : goal.lose-requires
-lose-requires g c =
+pub either-requires-clause-one : goal.either-requires-clause-one
+either-requires-clause-one g c =
     let M = g.W.SymLower.means c.args.stops.now in
     let K = g.W.SymStops.power c.args.stops.now in
-    let low = g.met.W.SymLower.keeps c.args.stops.now in
-    let power = g.met.W.SymStops.keeps_power c.args.stops.now in
-    let kinds = g.B.Book.kinds c.args.book.now in
-    let q = question_of c.args.question in
     let z = halted_of c.args.to.now c.args.fallen.now c.args.stopped in
-    let one = after_cut M K low power kinds q z c.args.here c.args.within c.args.bank.now c.cut.new.bank c.in_ok-cut.cut c.requires.asks
-    c.requires.here c.requires.within
-    c.cut.ensures.bank c.cut.ensures.grows c.in_ok-cut.ensures.single c.in_ok-cut.ensures.nodes c.in_ok-cut.ensures.form in
-    let two = after_inner M K low power kinds q z c.args.here c.args.within c.cut.new.bank c.merge.new.bank c.in_ok-cut.cut c.in_ok-inner.inner one
-    c.merge.ensures.bank c.merge.ensures.grows c.in_ok-inner.ensures.single c.in_ok-inner.ensures.nodes c.in_ok-inner.ensures.form in
-    record { loses = can_lose M K c.merge.new.bank q z two.ask }
+    wider c.args.bank.now c.first.new.bank c.args.stopped 1 c.first.ensures.grows
+    (stopped_wide M K c.args.bank.now (question_of c.args.question) z c.requires.asks)
 
-pub merge-requires-2 : goal.merge-requires-2
-merge-requires-2 g c =
-    let M = g.W.SymLower.means c.args.stops.now in
-    let K = g.W.SymStops.power c.args.stops.now in
-    let low = g.met.W.SymLower.keeps c.args.stops.now in
-    let power = g.met.W.SymStops.keeps_power c.args.stops.now in
-    let kinds = g.B.Book.kinds c.args.book.now in
-    let q = question_of c.args.question in
-    let z = halted_of c.args.to.now c.args.fallen.now c.args.stopped in
-    let one = after_cut M K low power kinds q z c.args.here c.args.within c.args.bank.now c.cut.new.bank c.in_ok-cut.cut c.requires.asks
-    c.requires.here c.requires.within
-    c.cut.ensures.bank c.cut.ensures.grows c.in_ok-cut.ensures.single c.in_ok-cut.ensures.nodes c.in_ok-cut.ensures.form in
-    let two = after_inner M K low power kinds q z c.args.here c.args.within c.cut.new.bank c.merge.new.bank c.in_ok-cut.cut c.in_ok-inner.inner one
-    c.merge.ensures.bank c.merge.ensures.grows c.in_ok-inner.ensures.single c.in_ok-inner.ensures.nodes c.in_ok-inner.ensures.form in
-    let three = after_lost M K low power kinds q z c.args.here c.args.within c.merge.new.bank c.lose.new.bank c.in_ok-inner.inner c.in_ok-lost.lost two
-    c.lose.ensures.bank c.lose.ensures.grows c.in_ok-lost.ensures.single c.in_ok-lost.ensures.nodes c.in_ok-lost.ensures.form in
-    record { merges = can_outer M K low power kinds q z c.args.here c.args.within c.lose.new.bank c.in_ok-inner.inner c.in_ok-lost.lost three }
+pub either-requires-clause-two : goal.either-requires-clause-two
+either-requires-clause-two g c = wider c.args.bank.now c.first.new.bank c.args.here 1 c.first.ensures.grows c.requires.here
 
-pub merge-requires-3 : goal.merge-requires-3
-merge-requires-3 g c =
-    let M = g.W.SymLower.means c.args.stops.now in
-    let K = g.W.SymStops.power c.args.stops.now in
-    let low = g.met.W.SymLower.keeps c.args.stops.now in
-    let power = g.met.W.SymStops.keeps_power c.args.stops.now in
-    let kinds = g.B.Book.kinds c.args.book.now in
-    let q = question_of c.args.question in
-    let z = halted_of c.args.to.now c.args.fallen.now c.args.stopped in
-    let one = after_cut M K low power kinds q z c.args.here c.args.within c.args.bank.now c.cut.new.bank c.in_ok-cut.cut c.requires.asks
-    c.requires.here c.requires.within
-    c.cut.ensures.bank c.cut.ensures.grows c.in_ok-cut.ensures.single c.in_ok-cut.ensures.nodes c.in_ok-cut.ensures.form in
-    let two = after_inner M K low power kinds q z c.args.here c.args.within c.cut.new.bank c.merge.new.bank c.in_ok-cut.cut c.in_ok-inner.inner one
-    c.merge.ensures.bank c.merge.ensures.grows c.in_ok-inner.ensures.single c.in_ok-inner.ensures.nodes c.in_ok-inner.ensures.form in
-    let three = after_lost M K low power kinds q z c.args.here c.args.within c.merge.new.bank c.lose.new.bank c.in_ok-inner.inner c.in_ok-lost.lost two
-    c.lose.ensures.bank c.lose.ensures.grows c.in_ok-lost.ensures.single c.in_ok-lost.ensures.nodes c.in_ok-lost.ensures.form in
-    let four = can_last M K low power kinds q z c.args.here c.args.within c.lose.new.bank c.merge-2.new.bank c.in_ok-inner.inner c.in_ok-lost.lost
-    c.in_ok-outer.outer three
-    c.merge-2.ensures.bank c.merge-2.ensures.grows c.in_ok-outer.ensures.single c.in_ok-outer.ensures.nodes c.in_ok-outer.ensures.form in
-    record { merges = four }
+pub first-requires-2-clause-one : goal.first-requires-2-clause-one
+first-requires-2-clause-one g c =
+    wider c.args.bank.now c.either.new.bank c.args.within 1
+    (extends_both c.args.bank.now c.first.new.bank c.either.new.bank c.first.ensures.grows c.either.ensures.grows) c.requires.within
 
-pub returns-clause-stands : goal.returns-clause-stands
-returns-clause-stands g c =
-    let M = g.W.SymLower.means c.args.stops.now in
-    let K = g.W.SymStops.power c.args.stops.now in
-    let low = g.met.W.SymLower.keeps c.args.stops.now in
-    let power = g.met.W.SymStops.keeps_power c.args.stops.now in
-    let kinds = g.B.Book.kinds c.args.book.now in
+pub leaves-requires-clause-asks : goal.leaves-requires-clause-asks
+leaves-requires-clause-asks g c =
+    let H = halting_meaning (g.W.SymLower.means c.args.stops.now) (g.W.SymStops.power c.args.stops.now) in
     let q = question_of c.args.question in
     let z = halted_of c.args.to.now c.args.fallen.now c.args.stopped in
-    let one = after_cut M K low power kinds q z c.args.here c.args.within c.args.bank.now c.cut.new.bank c.in_ok-cut.cut c.requires.asks
-    c.requires.here c.requires.within
-    c.cut.ensures.bank c.cut.ensures.grows c.in_ok-cut.ensures.single c.in_ok-cut.ensures.nodes c.in_ok-cut.ensures.form in
-    let two = after_inner M K low power kinds q z c.args.here c.args.within c.cut.new.bank c.merge.new.bank c.in_ok-cut.cut c.in_ok-inner.inner one
-    c.merge.ensures.bank c.merge.ensures.grows c.in_ok-inner.ensures.single c.in_ok-inner.ensures.nodes c.in_ok-inner.ensures.form in
-    let three = after_lost M K low power kinds q z c.args.here c.args.within c.merge.new.bank c.lose.new.bank c.in_ok-inner.inner c.in_ok-lost.lost two
-    c.lose.ensures.bank c.lose.ensures.grows c.in_ok-lost.ensures.single c.in_ok-lost.ensures.nodes c.in_ok-lost.ensures.form in
-    let four = can_last M K low power kinds q z c.args.here c.args.within c.lose.new.bank c.merge-2.new.bank c.in_ok-inner.inner c.in_ok-lost.lost
-    c.in_ok-outer.outer three
-    c.merge-2.ensures.bank c.merge-2.ensures.grows c.in_ok-outer.ensures.single c.in_ok-outer.ensures.nodes c.in_ok-outer.ensures.form in
-    merged_if M K low power kinds c.args.stopped c.args.fallen.now c.in_ok-outer.outer c.merge-2.new.bank c.merge-3.new.bank c.merge-3.result four
-    c.merge-3.ensures.bank c.merge-3.ensures.nodes c.merge-3.ensures.form
+    ask_later H c.either.new.bank c.first-2.new.bank q z c.first-2.ensures.grows c.in_ok-inner.ensures.single
+    (ask_later H c.first.new.bank c.either.new.bank q z c.either.ensures.grows c.in_ok-some.ensures.single
+    (ask_later H c.args.bank.now c.first.new.bank q z c.first.ensures.grows c.in_ok-outer.ensures.single c.requires.asks))
+
+pub leaves-requires-clause-here : goal.leaves-requires-clause-here
+leaves-requires-clause-here g c =
+    wider c.first.new.bank c.first-2.new.bank c.in_ok-outer.outer 1
+    (extends_both c.first.new.bank c.either.new.bank c.first-2.new.bank c.either.ensures.grows c.first-2.ensures.grows) c.in_ok-outer.ensures.width
 
 pub returns-clause-single : goal.returns-clause-single
 returns-clause-single g c =
-    single_if c.args.bank.now c.merge-2.new.bank c.merge-3.new.bank c.merge-3.result
-    (single_both c.args.bank.now c.cut.new.bank c.merge-2.new.bank c.in_ok-cut.ensures.single
-    (single_both c.cut.new.bank c.merge.new.bank c.merge-2.new.bank c.in_ok-inner.ensures.single
-    (single_both c.merge.new.bank c.lose.new.bank c.merge-2.new.bank c.in_ok-lost.ensures.single c.in_ok-outer.ensures.single))) c.merge-3.ensures.single
-
-pub returns-in_err-inner-clause-grows : goal.returns-in_err-inner-clause-grows
-returns-in_err-inner-clause-grows g c =
-    extends_both c.args.bank.now c.cut.new.bank c.merge.new.bank c.cut.ensures.grows c.merge.ensures.grows
-
-pub returns-in_err-lost-clause-grows : goal.returns-in_err-lost-clause-grows
-returns-in_err-lost-clause-grows g c =
-    extends_both c.args.bank.now c.cut.new.bank c.lose.new.bank c.cut.ensures.grows
-    (extends_both c.cut.new.bank c.merge.new.bank c.lose.new.bank c.merge.ensures.grows
-    c.lose.ensures.grows)
-
-pub returns-in_err-outer-clause-grows : goal.returns-in_err-outer-clause-grows
-returns-in_err-outer-clause-grows g c =
-    extends_both c.args.bank.now c.cut.new.bank c.merge-2.new.bank c.cut.ensures.grows
-    (extends_both c.cut.new.bank c.merge.new.bank c.merge-2.new.bank c.merge.ensures.grows
-    (extends_both c.merge.new.bank c.lose.new.bank c.merge-2.new.bank c.lose.ensures.grows
-    c.merge-2.ensures.grows))
+    single_if c.args.bank.now c.first-2.new.bank c.leaves.new.bank c.leaves.result
+    (single_both c.args.bank.now c.first.new.bank c.first-2.new.bank c.in_ok-outer.ensures.single
+    (single_both c.first.new.bank c.either.new.bank c.first-2.new.bank c.in_ok-some.ensures.single c.in_ok-inner.ensures.single))
+    c.leaves.ensures.single
 
 pub returns-clause-grows : goal.returns-clause-grows
 returns-clause-grows g c =
-    extends_both c.args.bank.now c.cut.new.bank c.merge-3.new.bank c.cut.ensures.grows
-    (extends_both c.cut.new.bank c.merge.new.bank c.merge-3.new.bank c.merge.ensures.grows
-    (extends_both c.merge.new.bank c.lose.new.bank c.merge-3.new.bank c.lose.ensures.grows
-    (extends_both c.lose.new.bank c.merge-2.new.bank c.merge-3.new.bank c.merge-2.ensures.grows
-    c.merge-3.ensures.grows)))
+    extends_both c.args.bank.now c.first.new.bank c.leaves.new.bank c.first.ensures.grows
+    (extends_both c.first.new.bank c.either.new.bank c.leaves.new.bank c.either.ensures.grows
+    (extends_both c.either.new.bank c.first-2.new.bank c.leaves.new.bank c.first-2.ensures.grows c.leaves.ensures.grows))
 
 pub returns-clause-nodes : goal.returns-clause-nodes
 returns-clause-nodes g c =
@@ -140,12 +69,12 @@ returns-clause-nodes g c =
     let kinds = g.B.Book.kinds c.args.book.now in
     let q = question_of c.args.question in
     let z = halted_of c.args.to.now c.args.fallen.now c.args.stopped in
-    nodes_as ((M.machine kinds).merge c.args.stopped c.args.fallen.now c.in_ok-outer.outer c.merge-2.new.bank)
-    (sym_left kinds no_functions (M.machine kinds) (stops_on M K kinds) c.args.here c.args.within q z c.args.bank.now) c.merge-3.new.bank c.merge-3.result
-    (left_from (K.cut kinds q c.args.to.now) (K.lose kinds c.args.to.now) (M.machine kinds).merge c.args.here c.args.within c.args.stopped
-    c.args.fallen.now c.in_ok-cut.cut c.in_ok-inner.inner c.in_ok-lost.lost c.in_ok-outer.outer c.args.bank.now c.cut.new.bank c.merge.new.bank
-    c.lose.new.bank c.merge-2.new.bank c.in_ok-cut.ensures.form c.in_ok-cut.ensures.nodes c.in_ok-inner.ensures.form c.in_ok-inner.ensures.nodes
-    c.in_ok-lost.ensures.form c.in_ok-lost.ensures.nodes c.in_ok-outer.ensures.form c.in_ok-outer.ensures.nodes) c.merge-3.ensures.nodes
+    let leave = λ h w. sym_leaves kinds no_functions (M.machine kinds) (stops_on M K kinds) h w q z in
+    nodes_as (leave c.in_ok-outer.outer c.in_ok-inner.inner c.first-2.new.bank)
+    (sym_left kinds no_functions (M.machine kinds) (stops_on M K kinds) c.args.here c.args.within q z c.args.bank.now) c.leaves.new.bank c.leaves.result
+    (left_from (first_made kinds) (λ a b. made kinds (Bin Or a b)) leave c.args.stopped c.args.here c.args.within c.in_ok-outer.outer c.in_ok-some.some
+    c.in_ok-inner.inner c.args.bank.now c.first.new.bank c.either.new.bank c.first-2.new.bank c.in_ok-outer.ensures.form c.in_ok-outer.ensures.nodes
+    c.in_ok-some.ensures.form c.in_ok-some.ensures.nodes c.in_ok-inner.ensures.form c.in_ok-inner.ensures.nodes) c.leaves.ensures.nodes
 
 pub returns-clause-form : goal.returns-clause-form
 returns-clause-form g c =
@@ -154,27 +83,54 @@ returns-clause-form g c =
     let kinds = g.B.Book.kinds c.args.book.now in
     let q = question_of c.args.question in
     let z = halted_of c.args.to.now c.args.fallen.now c.args.stopped in
-    form_as ((M.machine kinds).merge c.args.stopped c.args.fallen.now c.in_ok-outer.outer c.merge-2.new.bank)
-    (sym_left kinds no_functions (M.machine kinds) (stops_on M K kinds) c.args.here c.args.within q z c.args.bank.now) c.merge-3.result
-    (left_from (K.cut kinds q c.args.to.now) (K.lose kinds c.args.to.now) (M.machine kinds).merge c.args.here c.args.within c.args.stopped
-    c.args.fallen.now c.in_ok-cut.cut c.in_ok-inner.inner c.in_ok-lost.lost c.in_ok-outer.outer c.args.bank.now c.cut.new.bank c.merge.new.bank
-    c.lose.new.bank c.merge-2.new.bank c.in_ok-cut.ensures.form c.in_ok-cut.ensures.nodes c.in_ok-inner.ensures.form c.in_ok-inner.ensures.nodes
-    c.in_ok-lost.ensures.form c.in_ok-lost.ensures.nodes c.in_ok-outer.ensures.form c.in_ok-outer.ensures.nodes) c.merge-3.ensures.form
+    let leave = λ h w. sym_leaves kinds no_functions (M.machine kinds) (stops_on M K kinds) h w q z in
+    form_as (leave c.in_ok-outer.outer c.in_ok-inner.inner c.first-2.new.bank)
+    (sym_left kinds no_functions (M.machine kinds) (stops_on M K kinds) c.args.here c.args.within q z c.args.bank.now) c.leaves.result
+    (left_from (first_made kinds) (λ a b. made kinds (Bin Or a b)) leave c.args.stopped c.args.here c.args.within c.in_ok-outer.outer c.in_ok-some.some
+    c.in_ok-inner.inner c.args.bank.now c.first.new.bank c.either.new.bank c.first-2.new.bank c.in_ok-outer.ensures.form c.in_ok-outer.ensures.nodes
+    c.in_ok-some.ensures.form c.in_ok-some.ensures.nodes c.in_ok-inner.ensures.form c.in_ok-inner.ensures.nodes) c.leaves.ensures.form
 
-pub returns-in_err-cut-clause-nodes : goal.returns-in_err-cut-clause-nodes
-returns-in_err-cut-clause-nodes g c = on_ok_refused c.from_residual.result _ c.from_residual.ensures.0
+pub returns-clause-stands : goal.returns-clause-stands
+returns-clause-stands g c = c.leaves.ensures.stands
 
-pub returns-in_err-cut-clause-single : goal.returns-in_err-cut-clause-single
-returns-in_err-cut-clause-single g c = on_ok_refused c.from_residual.result _ c.from_residual.ensures.0
+pub returns-clause-bank : goal.returns-clause-bank
+returns-clause-bank g c = c.leaves.ensures.bank
 
-pub returns-in_err-cut-clause-form : goal.returns-in_err-cut-clause-form
-returns-in_err-cut-clause-form g c = IfOk-from_err c.from_residual.result _ c.from_residual.ensures.0
+pub returns-in_err-outer-clause-nodes : goal.returns-in_err-outer-clause-nodes
+returns-in_err-outer-clause-nodes g c = on_ok_refused c.from_residual.result _ c.from_residual.ensures.0
 
-pub returns-in_err-cut-clause-stands : goal.returns-in_err-cut-clause-stands
-returns-in_err-cut-clause-stands g c = IfOk-from_err c.from_residual.result _ c.from_residual.ensures.0
+pub returns-in_err-outer-clause-single : goal.returns-in_err-outer-clause-single
+returns-in_err-outer-clause-single g c = on_ok_refused c.from_residual.result _ c.from_residual.ensures.0
 
-pub returns-in_err-cut-clause-bank : goal.returns-in_err-cut-clause-bank
-returns-in_err-cut-clause-bank g c = c.cut.ensures.bank
+pub returns-in_err-outer-clause-form : goal.returns-in_err-outer-clause-form
+returns-in_err-outer-clause-form g c = IfOk-from_err c.from_residual.result _ c.from_residual.ensures.0
+
+pub returns-in_err-outer-clause-stands : goal.returns-in_err-outer-clause-stands
+returns-in_err-outer-clause-stands g c = IfOk-from_err c.from_residual.result _ c.from_residual.ensures.0
+
+pub returns-in_err-outer-clause-bank : goal.returns-in_err-outer-clause-bank
+returns-in_err-outer-clause-bank g c = c.first.ensures.bank
+
+pub returns-in_err-outer-clause-grows : goal.returns-in_err-outer-clause-grows
+returns-in_err-outer-clause-grows g c = c.first.ensures.grows
+
+pub returns-in_err-some-clause-nodes : goal.returns-in_err-some-clause-nodes
+returns-in_err-some-clause-nodes g c = on_ok_refused c.from_residual-in_err-some.result _ c.from_residual-in_err-some.ensures.0
+
+pub returns-in_err-some-clause-single : goal.returns-in_err-some-clause-single
+returns-in_err-some-clause-single g c = on_ok_refused c.from_residual-in_err-some.result _ c.from_residual-in_err-some.ensures.0
+
+pub returns-in_err-some-clause-form : goal.returns-in_err-some-clause-form
+returns-in_err-some-clause-form g c = IfOk-from_err c.from_residual-in_err-some.result _ c.from_residual-in_err-some.ensures.0
+
+pub returns-in_err-some-clause-stands : goal.returns-in_err-some-clause-stands
+returns-in_err-some-clause-stands g c = IfOk-from_err c.from_residual-in_err-some.result _ c.from_residual-in_err-some.ensures.0
+
+pub returns-in_err-some-clause-bank : goal.returns-in_err-some-clause-bank
+returns-in_err-some-clause-bank g c = c.either.ensures.bank
+
+pub returns-in_err-some-clause-grows : goal.returns-in_err-some-clause-grows
+returns-in_err-some-clause-grows g c = extends_both c.args.bank.now c.first.new.bank c.either.new.bank c.first.ensures.grows c.either.ensures.grows
 
 pub returns-in_err-inner-clause-nodes : goal.returns-in_err-inner-clause-nodes
 returns-in_err-inner-clause-nodes g c = on_ok_refused c.from_residual-in_err-inner.result _ c.from_residual-in_err-inner.ensures.0
@@ -189,40 +145,9 @@ pub returns-in_err-inner-clause-stands : goal.returns-in_err-inner-clause-stands
 returns-in_err-inner-clause-stands g c = IfOk-from_err c.from_residual-in_err-inner.result _ c.from_residual-in_err-inner.ensures.0
 
 pub returns-in_err-inner-clause-bank : goal.returns-in_err-inner-clause-bank
-returns-in_err-inner-clause-bank g c = c.merge.ensures.bank
+returns-in_err-inner-clause-bank g c = c.first-2.ensures.bank
 
-pub returns-in_err-lost-clause-nodes : goal.returns-in_err-lost-clause-nodes
-returns-in_err-lost-clause-nodes g c = on_ok_refused c.from_residual-in_err-lost.result _ c.from_residual-in_err-lost.ensures.0
-
-pub returns-in_err-lost-clause-single : goal.returns-in_err-lost-clause-single
-returns-in_err-lost-clause-single g c = on_ok_refused c.from_residual-in_err-lost.result _ c.from_residual-in_err-lost.ensures.0
-
-pub returns-in_err-lost-clause-form : goal.returns-in_err-lost-clause-form
-returns-in_err-lost-clause-form g c = IfOk-from_err c.from_residual-in_err-lost.result _ c.from_residual-in_err-lost.ensures.0
-
-pub returns-in_err-lost-clause-stands : goal.returns-in_err-lost-clause-stands
-returns-in_err-lost-clause-stands g c = IfOk-from_err c.from_residual-in_err-lost.result _ c.from_residual-in_err-lost.ensures.0
-
-pub returns-in_err-lost-clause-bank : goal.returns-in_err-lost-clause-bank
-returns-in_err-lost-clause-bank g c = c.lose.ensures.bank
-
-pub returns-in_err-outer-clause-nodes : goal.returns-in_err-outer-clause-nodes
-returns-in_err-outer-clause-nodes g c = on_ok_refused c.from_residual-in_err-outer.result _ c.from_residual-in_err-outer.ensures.0
-
-pub returns-in_err-outer-clause-single : goal.returns-in_err-outer-clause-single
-returns-in_err-outer-clause-single g c = on_ok_refused c.from_residual-in_err-outer.result _ c.from_residual-in_err-outer.ensures.0
-
-pub returns-in_err-outer-clause-form : goal.returns-in_err-outer-clause-form
-returns-in_err-outer-clause-form g c = IfOk-from_err c.from_residual-in_err-outer.result _ c.from_residual-in_err-outer.ensures.0
-
-pub returns-in_err-outer-clause-stands : goal.returns-in_err-outer-clause-stands
-returns-in_err-outer-clause-stands g c = IfOk-from_err c.from_residual-in_err-outer.result _ c.from_residual-in_err-outer.ensures.0
-
-pub returns-in_err-outer-clause-bank : goal.returns-in_err-outer-clause-bank
-returns-in_err-outer-clause-bank g c = c.merge-2.ensures.bank
-
-pub returns-in_err-cut-clause-grows : goal.returns-in_err-cut-clause-grows
-returns-in_err-cut-clause-grows g c = c.cut.ensures.grows
-
-pub returns-clause-bank : goal.returns-clause-bank
-returns-clause-bank g c = c.merge-3.ensures.bank
+pub returns-in_err-inner-clause-grows : goal.returns-in_err-inner-clause-grows
+returns-in_err-inner-clause-grows g c =
+    extends_both c.args.bank.now c.first.new.bank c.first-2.new.bank c.first.ensures.grows
+    (extends_both c.first.new.bank c.either.new.bank c.first-2.new.bank c.either.ensures.grows c.first-2.ensures.grows)

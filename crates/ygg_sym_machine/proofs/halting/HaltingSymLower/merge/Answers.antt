@@ -6,8 +6,8 @@ use Rattle.std.proofs.lemmas.Result.{IfOk-from_err}
 use Rattle.ygg_sym_machine.proofs.Calls.{on_ok_refused}
 use Rattle.ygg_sym_machine.proofs.halting.HaltingSymLower.merge.Goals as goal
 
-pub merge-requires-2 : goal.merge-requires-2
-merge-requires-2 g c =
+pub join-requires : goal.join-requires
+join-requires g c =
     let M = g.W.SymLower.means c.args.self.now.stops.now in
     let m = c.requires.merges in
     let yes = c.yes.inside in
@@ -31,32 +31,32 @@ pick-requires-clause-pick g c =
     let no = c.no.inside in
     let one = subst ((halted_low M).Has c.args.bank.now) (sym c.yes.view_is) m.first_has in
     let two = subst ((halted_low M).Has c.args.bank.now) (sym c.no.view_is) m.second_has in
-    let grows = extends_both c.args.bank.now c.merge.new.bank c.merge-2.new.bank c.merge.ensures.grows c.merge-2.ensures.grows in
-    can_pick c.merge-2.new.bank c.args.test yes.stopped no.stopped (wider c.args.bank.now c.merge-2.new.bank c.args.test 1 grows m.test)
-    (wider c.args.bank.now c.merge-2.new.bank yes.stopped 1 grows one.2) (wider c.args.bank.now c.merge-2.new.bank no.stopped 1 grows two.2)
+    let grows = extends_both c.args.bank.now c.merge.new.bank c.join.new.bank c.merge.ensures.grows c.join.ensures.grows in
+    can_pick c.join.new.bank c.args.test yes.stopped no.stopped (wider c.args.bank.now c.join.new.bank c.args.test 1 grows m.test)
+    (wider c.args.bank.now c.join.new.bank yes.stopped 1 grows one.2) (wider c.args.bank.now c.join.new.bank no.stopped 1 grows two.2)
 
 pub returns-clause-single : goal.returns-clause-single
 returns-clause-single g c =
     let yes = c.yes.inside in
     let no = c.no.inside in
     single_both c.args.bank.now c.merge.new.bank c.pick.new.bank c.in_ok-to.ensures.single
-    (single_both c.merge.new.bank c.merge-2.new.bank c.pick.new.bank c.in_ok-fallen.ensures.single
-    (pick_single (g.B.Book.kinds c.args.book.now) c.merge-2.new.bank c.pick.new.bank c.args.test yes.stopped no.stopped c.in_ok-stopped.ensures.nodes))
+    (single_both c.merge.new.bank c.join.new.bank c.pick.new.bank c.in_ok-fallen.ensures.single
+    (pick_single (g.B.Book.kinds c.args.book.now) c.join.new.bank c.pick.new.bank c.args.test yes.stopped no.stopped c.in_ok-stopped.ensures.nodes))
 
 pub returns-in_err-fallen-clause-grows : goal.returns-in_err-fallen-clause-grows
 returns-in_err-fallen-clause-grows g c =
-    extends_both c.args.bank.now c.merge.new.bank c.merge-2.new.bank c.merge.ensures.grows c.merge-2.ensures.grows
+    extends_both c.args.bank.now c.merge.new.bank c.join.new.bank c.merge.ensures.grows c.join.ensures.grows
 
 pub returns-in_err-stopped-clause-grows : goal.returns-in_err-stopped-clause-grows
 returns-in_err-stopped-clause-grows g c =
     extends_both c.args.bank.now c.merge.new.bank c.pick.new.bank c.merge.ensures.grows
-    (extends_both c.merge.new.bank c.merge-2.new.bank c.pick.new.bank c.merge-2.ensures.grows
+    (extends_both c.merge.new.bank c.join.new.bank c.pick.new.bank c.join.ensures.grows
     c.pick.ensures.grows)
 
 pub returns-clause-grows : goal.returns-clause-grows
 returns-clause-grows g c =
     extends_both c.args.bank.now c.merge.new.bank c.pick.new.bank c.merge.ensures.grows
-    (extends_both c.merge.new.bank c.merge-2.new.bank c.pick.new.bank c.merge-2.ensures.grows
+    (extends_both c.merge.new.bank c.join.new.bank c.pick.new.bank c.join.ensures.grows
     c.pick.ensures.grows)
 
 pub returns-in_err-to-clause-nodes : goal.returns-in_err-to-clause-nodes
@@ -81,7 +81,7 @@ pub returns-in_err-fallen-clause-form : goal.returns-in_err-fallen-clause-form
 returns-in_err-fallen-clause-form g c = IfOk-from_err c.from_residual-in_err-fallen.result _ c.from_residual-in_err-fallen.ensures.0
 
 pub returns-in_err-fallen-clause-bank : goal.returns-in_err-fallen-clause-bank
-returns-in_err-fallen-clause-bank g c = c.merge-2.ensures.bank
+returns-in_err-fallen-clause-bank g c = c.join.ensures.bank
 
 pub returns-in_err-stopped-clause-nodes : goal.returns-in_err-stopped-clause-nodes
 returns-in_err-stopped-clause-nodes g c = on_ok_refused c.from_residual-in_err-stopped.result _ c.from_residual-in_err-stopped.ensures.0
@@ -102,4 +102,4 @@ pub returns-clause-bank : goal.returns-clause-bank
 returns-clause-bank g c = c.pick.ensures.bank
 
 pub pick-requires-clause-bank : goal.pick-requires-clause-bank
-pick-requires-clause-bank g c = c.merge-2.ensures.bank
+pick-requires-clause-bank g c = c.join.ensures.bank
