@@ -6,11 +6,13 @@ use Rattle.ygg_shape_words.specs.ygg_bank.Nodes.{Extends}
 use Rattle.ygg_shape_words.specs.ygg_bank.declared.node.Id.{Id}
 use Rattle.ygg_shape_words.specs.ygg_bank.declared.node.Node.{Node}
 use Rattle.ygg_shape_words.proofs.Keeps.{grows_stays}
-use Rattle.ygg_shape_cells.specs.Making.{merged_row, merged_rows, merged, split_at, where_at, zeros, chosen, selected, selected_within, stored_from, stored}
+use Rattle.ygg_shape_cells.specs.Making.{merged_row, written_row, merged_rows, merged, split_at, where_at, zeros, chosen}
+use Rattle.ygg_shape_cells.specs.Making.{selected, selected_within, stored_from, stored}
 use Rattle.ygg_shape_cells.specs.declared.terms.SymValue.{SymValue}
 use Rattle.ygg_shape_cells.specs.Guarding.{guarded_split, guarded_at, guarded_from, stored_where}
 use Rattle.ygg_shape_cells.proofs.Keeps.{
   merged_row_keeps,
+  written_row_keeps,
   merged_rows_keeps,
   merged_keeps,
   split_at_keeps,
@@ -30,6 +32,9 @@ use Rattle.ygg_shape_cells.proofs.Keeps.{
 module _ (kinds : List RuleKind) where
   pub merged_row_grows : (t : Id) (xs ys : List Id) (nodes : List Node) → Extends nodes (merged_row kinds t xs ys nodes).nodes
   merged_row_grows t xs ys nodes = merged_row_keeps kinds (Extends nodes) (grows_stays kinds nodes) t xs ys nodes (extends_self nodes)
+
+  pub written_row_grows : (t m : Id) (xs ys : List Id) (nodes : List Node) → Extends nodes (written_row kinds t m xs ys nodes).nodes
+  written_row_grows t m xs ys nodes = written_row_keeps kinds (Extends nodes) (grows_stays kinds nodes) t m xs ys nodes (extends_self nodes)
 
   pub merged_rows_grows : (t : Id) (xs ys : List (List Id)) (nodes : List Node) → Extends nodes (merged_rows kinds t xs ys nodes).nodes
   merged_rows_grows t xs ys nodes = merged_rows_keeps kinds (Extends nodes) (grows_stays kinds nodes) t xs ys nodes (extends_self nodes)

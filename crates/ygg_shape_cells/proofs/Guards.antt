@@ -52,10 +52,10 @@ use Rattle.ygg_shape_words.specs.ygg_bank.declared.node.Id.{Id}
 use Rattle.ygg_shape_words.specs.ygg_bank.declared.node.Node.{Node}
 use Rattle.ygg_shape_words.specs.ygg_bank.declared.node.Node.TheVariants.{Const, Bin}
 use Rattle.ygg_shape_cells.proofs.Wider.{row_wider, rows_wider}
-use Rattle.ygg_shape_cells.specs.Making.{merged_row}
+use Rattle.ygg_shape_cells.specs.Making.{merged_row, written_row}
 use Rattle.ygg_shape_cells.specs.Terms.{IsRow, numbers_of}
-use Rattle.ygg_shape_cells.proofs.Grows.{merged_row_grows, guarded_at_grows, guarded_from_grows}
-use Rattle.ygg_shape_cells.proofs.Rows.{RowIs, merged_row_is}
+use Rattle.ygg_shape_cells.proofs.Grows.{merged_row_grows, written_row_grows, guarded_at_grows, guarded_from_grows}
+use Rattle.ygg_shape_cells.proofs.Rows.{RowIs, merged_row_is, written_row_is}
 use Rattle.ygg_shape_words.proofs.Compares.{same_words_is}
 use Rattle.ygg_shape_words.proofs.Fit.{alike, can_and}
 use Rattle.ygg_shape_words.proofs.Grows.{same_words_grows}
@@ -115,6 +115,10 @@ and_false : (c d : Bool) → d ≡ false → (c && d) ≡ false
 and_false true d e = e
 and_false false d e = refl
 
+and_second : (c d : Bool) → (c && d) ≡ true → d ≡ true
+and_second true d e = e
+and_second false d e = absurd (cc)
+
 module _ (inputs : Inputs) (v : Values) (kinds : List RuleKind) where
   abbrev pub test : Id → Bool
   test t = holds inputs v t
@@ -134,9 +138,9 @@ module _ (inputs : Inputs) (v : Values) (kinds : List RuleKind) where
       let eg = same_words_grows kinds at k.value k.nodes in
       let b = made kinds (Bin And t e.value) e.nodes in
       let bg = made_grows kinds (Bin And t e.value) e.nodes in
-      let m = merged_row kinds b.value xs ys b.nodes in
+      let m = written_row kinds b.value e.value xs ys b.nodes in
       let g = extends_both nodes k.nodes b.nodes kg (extends_both k.nodes e.nodes b.nodes eg bg) in
-      let hb = fits_fewer inputs v b.nodes m.nodes (merged_row_grows kinds b.value xs ys b.nodes) h in
+      let hb = fits_fewer inputs v b.nodes m.nodes (written_row_grows kinds b.value e.value xs ys b.nodes) h in
       let he = fits_fewer inputs v e.nodes b.nodes bg hb in
       let x = made_is inputs v kinds (Const (word d i)) nodes (record { least = l.least; most = l.most; fits = f })
       (fits_fewer inputs v k.nodes e.nodes eg he) in
@@ -144,12 +148,14 @@ module _ (inputs : Inputs) (v : Values) (kinds : List RuleKind) where
       let te = wider k.nodes e.nodes t 1 eg (wider nodes k.nodes t 1 kg u) in
       let z = made_is inputs v kinds (Bin And t e.value) e.nodes (can_and e.nodes t e.value 1 te y.wide) hb in
       let bw : HasWidth b.nodes b.value 1 = z.wide ∙ ap (λ c. Some c) (width_is e.nodes t 1 te) in
-      let r = merged_row_is inputs v kinds n w b.value xs ys b.nodes bw (row_wider nodes b.nodes n w xs g p) (row_wider nodes b.nodes n w ys g q) h in
       let same : v e.value.0 ≡ word 1 (bit_of (place at == i)) = y.is ∙ ap (λ (c : Number). word 1 (bit_of (place at == c.bits))) x.is in
       let both : test b.value ≡ (test t && (place at == i)) =
       ap (λ (c : Number). c.bits == 1) (z.is ∙ ap (λ c. apply_to And c (v e.value.0)) digit ∙ ap (apply_to And (word 1 (bit_of (test t)))) same
       ∙ and_digits (test t) (place at == i))
       ∙ bit_is (test t && (place at == i)) in
+      let met : test e.value ≡ (place at == i) = ap (λ (c : Number). c.bits == 1) same ∙ bit_is (place at == i) in
+      let r = written_row_is inputs v kinds n w b.value e.value xs ys b.nodes bw (λ c. met ∙ and_second (test t) (place at == i) (sym both ∙ c))
+      (row_wider nodes b.nodes n w xs g p) (row_wider nodes b.nodes n w ys g q) h in
       record { shaped = r.shaped; is = r.is ∙ ap (λ c. if c then numbers_of v xs else numbers_of v ys) both }
 
   guarded_case : (b : Bool) (n w d i : ℕ) (t at : Id) (xs ys : List Id) (nodes : List Node) → nat_lt i (2 ^ d) ≡ b → HasWidth nodes t 1 →

@@ -16,7 +16,8 @@ use Rattle.ygg_shape_words.specs.ygg_bank.declared.node.Node.{Node}
 use Rattle.ygg_shape_words.specs.ygg_bank.declared.node.Node.TheVariants.{Const, Bin, Pick}
 use Rattle.ygg_shape_words.specs.Same.{same_words}
 use Rattle.ygg_shape_cells.specs.Guarding.{guarded_split, guarded_from, stored_where, stored_where_at}
-use Rattle.ygg_shape_cells.specs.Making.{merged, merged_row, split_at, zeros, chosen, selected, selected_at, selected_by_number, selected_within, stored, width_in}
+use Rattle.ygg_shape_cells.specs.Making.{merged, merged_row, written_row, split_at, zeros, chosen, selected, selected_at}
+use Rattle.ygg_shape_cells.specs.Making.{selected_by_number, selected_within, stored, width_in}
 use Rattle.ygg_shape_cells.specs.RowPlaces.{first, single, singles, word_selected, word_stored}
 use Rattle.ygg_shape_cells.specs.Terms.{IsRow, words_in}
 use Rattle.ygg_shape_cells.specs.declared.terms.SymValue.{SymValue}
@@ -89,22 +90,22 @@ module _ (kinds : List RuleKind) where
   pub split_goes : (at : Id) (w number : ℕ) (one two : List Id) (k test : Id) (old made_first compared : List Node) →
       k ≡ (made kinds (Const (word w number)) old).value → made_first ≡ (made kinds (Const (word w number)) old).nodes →
       test ≡ (same_words kinds at k made_first).value → compared ≡ (same_words kinds at k made_first).nodes →
-      merged_row kinds test one two compared ≡ split_at kinds at w number one two old
+      written_row kinds test test one two compared ≡ split_at kinds at w number one two old
   split_goes at w number one two k test old made_first compared e f g h =
-      goes (same_words kinds at k made_first) test compared (λ test. merged_row kinds test one two) g h
-      ∙ goes (made kinds (Const (word w number)) old) k made_first (λ k. and_make (same_words kinds at k) (λ test. merged_row kinds test one two)) e f
+      goes (same_words kinds at k made_first) test compared (λ test. written_row kinds test test one two) g h
+      ∙ goes (made kinds (Const (word w number)) old) k made_first (λ k. and_make (same_words kinds at k) (λ test. written_row kinds test test one two)) e f
 
   pub guarded_goes : (t at : Id) (w number : ℕ) (one two : List Id) (k there both : Id) (old made_first compared joined : List Node) →
       k ≡ (made kinds (Const (word w number)) old).value → made_first ≡ (made kinds (Const (word w number)) old).nodes →
       there ≡ (same_words kinds at k made_first).value → compared ≡ (same_words kinds at k made_first).nodes →
       both ≡ (made kinds (Bin And t there) compared).value → joined ≡ (made kinds (Bin And t there) compared).nodes →
-      merged_row kinds both one two joined ≡ guarded_split kinds t at w number one two old
+      written_row kinds both there one two joined ≡ guarded_split kinds t at w number one two old
   guarded_goes t at w number one two k there both old made_first compared joined e f g h p q =
-      goes (made kinds (Bin And t there) compared) both joined (λ both. merged_row kinds both one two) p q
+      goes (made kinds (Bin And t there) compared) both joined (λ both. written_row kinds both there one two) p q
       ∙ goes (same_words kinds at k made_first) there compared
-      (λ there. and_make (made kinds (Bin And t there)) (λ both. merged_row kinds both one two)) g h
+      (λ there. and_make (made kinds (Bin And t there)) (λ both. written_row kinds both there one two)) g h
       ∙ goes (made kinds (Const (word w number)) old) k made_first
-      (λ k. and_make (same_words kinds at k) (λ there. and_make (made kinds (Bin And t there)) (λ both. merged_row kinds both one two))) e f
+      (λ k. and_make (same_words kinds at k) (λ there. and_make (made kinds (Bin And t there)) (λ both. written_row kinds both there one two))) e f
 
   -- the row at a place that is known to be this number, or not known
   pub selected_as : (table : List (List Id)) (at : Id) (old : List Node) (o : Option Number) → known_in (slice_get old at.0) ≡ o →

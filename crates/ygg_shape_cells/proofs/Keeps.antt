@@ -14,9 +14,11 @@ use Rattle.ygg_shape_words.specs.ygg_bank.declared.node.Node.TheVariants.{Const,
 use Rattle.ygg_shape_words.proofs.Keeps.{Stays, picked_keeps, same_words_keeps}
 use Rattle.ygg_shape_words.specs.Same.{same_words}
 use Rattle.ygg_shape_words.specs.Picking.{picked}
+use Rattle.ygg_shape_cells.specs.Pruning.{given_row}
 use Rattle.ygg_shape_cells.specs.Lists.{each_two, each_from, fold_two, fold_from}
 use Rattle.ygg_shape_cells.specs.Making.{
   merged_row,
+  written_row,
   merged_rows,
   merged,
   split_at,
@@ -77,6 +79,9 @@ module _ (kinds : List RuleKind) (P : List Node → Type 0) (stays : Stays kinds
   pub merged_row_keeps : (t : Id) (xs ys : List Id) (nodes : List Node) → P nodes → P (merged_row kinds t xs ys nodes).nodes
   merged_row_keeps t xs ys nodes p = each_two_keeps P (picked kinds t) (picked_keeps kinds P stays t) xs ys nodes p
 
+  pub written_row_keeps : (t m : Id) (xs ys : List Id) (nodes : List Node) → P nodes → P (written_row kinds t m xs ys nodes).nodes
+  written_row_keeps t m xs ys nodes p = merged_row_keeps t (given_row nodes m xs) ys nodes p
+
   pub merged_rows_keeps : (t : Id) (xs ys : List (List Id)) (nodes : List Node) → P nodes → P (merged_rows kinds t xs ys nodes).nodes
   merged_rows_keeps t xs ys nodes p = each_two_keeps P (merged_row kinds t) (merged_row_keeps t) xs ys nodes p
 
@@ -90,7 +95,7 @@ module _ (kinds : List RuleKind) (P : List Node → Type 0) (stays : Stays kinds
   split_at_keeps at width number one two nodes p =
       let k = made kinds (Const (word width number)) nodes in
       let t = same_words kinds at k.value k.nodes in
-      merged_row_keeps t.value one two t.nodes (same_words_keeps kinds P stays at k.value k.nodes (stays (Const (word width number)) nodes tt p))
+      written_row_keeps t.value t.value one two t.nodes (same_words_keeps kinds P stays at k.value k.nodes (stays (Const (word width number)) nodes tt p))
 
   pub where_at_keeps : (at : Id) (width number : ℕ) (one two : List Id) (nodes : List Node) → P nodes → P (where_at kinds at width number one two nodes).nodes
   where_at_keeps at width number one two nodes p =
@@ -154,7 +159,7 @@ module _ (kinds : List RuleKind) (P : List Node → Type 0) (stays : Stays kinds
       let k = made kinds (Const (word width number)) nodes in
       let e = same_words kinds at k.value k.nodes in
       let b = made kinds (Bin And t e.value) e.nodes in
-      merged_row_keeps b.value one two b.nodes
+      written_row_keeps b.value e.value one two b.nodes
       (stays (Bin And t e.value) e.nodes tt (same_words_keeps kinds P stays at k.value k.nodes (stays (Const (word width number)) nodes tt p)))
 
   pub guarded_at_keeps : (t at : Id) (width number : ℕ) (one two : List Id) (nodes : List Node) → P nodes →

@@ -2,6 +2,7 @@ pub use Rattle.ygg_shape_words.proofs.of_ygg_bank
 pub use Rattle.ygg_shape_words.proofs as of_ygg_shape_words
 pub mod Wider
 pub mod Fit
+pub mod Pruned
 pub mod PairWorth
 pub mod Keeps
 pub mod Grows

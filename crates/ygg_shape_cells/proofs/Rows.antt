@@ -49,10 +49,12 @@ use Rattle.ygg_shape_words.proofs.Picks.{picked_is}
 use Rattle.ygg_shape_words.proofs.Terms.{holds, made_is, either, number_if, bit_is}
 use Rattle.ygg_shape_words.specs.Picking.{picked}
 use Rattle.ygg_shape_words.specs.Same.{same_words}
-use Rattle.ygg_shape_cells.proofs.Grows.{merged_row_grows}
+use Rattle.ygg_shape_cells.proofs.Pruned.{given_row_shape, given_row_is}
+use Rattle.ygg_shape_cells.proofs.Grows.{merged_row_grows, written_row_grows}
 use Rattle.ygg_shape_cells.proofs.Wider.{IsWide, all_wider, row_wider}
 use Rattle.ygg_shape_cells.proofs.Words.{row_if}
-use Rattle.ygg_shape_cells.specs.Making.{merged_row, split_at, where_at, zeros}
+use Rattle.ygg_shape_cells.specs.Pruning.{given_row}
+use Rattle.ygg_shape_cells.specs.Making.{merged_row, written_row, split_at, where_at, zeros}
 use Rattle.ygg_shape_cells.specs.Terms.{IsRow, numbers_of}
 
 module _ (inputs : Inputs) (v : Values) where
@@ -95,6 +97,25 @@ module _ (inputs : Inputs) (v : Values) (kinds : List RuleKind) where
             ∙ row_if (holds inputs v t) (v x.0).bits (v y.0).bits (numbers_of v xs) (numbers_of v ys);
       }
 
+  under : (c : Bool) (new old other : List ℕ) → (c ≡ true → new ≡ old) → (if c then new else other) ≡ (if c then old else other)
+  under true new old other e = e refl
+  under false new old other e = refl
+
+  -- the words of the first row may be what they are where a test is 1 that follows
+  pub written_row_is : (n w : ℕ) (t m : Id) (xs ys : List Id) (nodes : List Node) → HasWidth nodes t 1 →
+      (holds inputs v t ≡ true → holds inputs v m ≡ true) → IsRow nodes n w xs → IsRow nodes n w ys →
+      Fits inputs v (written_row kinds t m xs ys nodes).nodes →
+      RowIs inputs v (written_row kinds t m xs ys nodes).nodes n w (if holds inputs v t then numbers_of v xs else numbers_of v ys)
+      (written_row kinds t m xs ys nodes).value
+  written_row_is n w t m xs ys nodes d i p q h =
+      let new = given_row nodes m xs in
+      let begun = fits_fewer inputs v nodes (written_row kinds t m xs ys nodes).nodes (written_row_grows kinds t m xs ys nodes) h in
+      let r = merged_row_is n w t new ys nodes d (given_row_shape nodes m n w xs begun.ordered p) q h in
+      record {
+        shaped = r.shaped;
+        is = r.is ∙ under (holds inputs v t) (numbers_of v new) (numbers_of v xs) (numbers_of v ys) (λ e. given_row_is inputs v nodes begun m xs (i e));
+      }
+
   -- zeros
   numbers_replicate : (n : ℕ) (a : Id) → (v a.0).bits ≡ 0 → numbers_of v (replicate n a) ≡ replicate n 0
   numbers_replicate zero a e = refl
@@ -123,12 +144,12 @@ module _ (inputs : Inputs) (v : Values) (kinds : List RuleKind) where
       let kg = made_grows kinds (Const (word d i)) nodes in
       let t = same_words kinds at k.value k.nodes in
       let tg = same_words_grows kinds at k.value k.nodes in
-      let m = merged_row kinds t.value xs ys t.nodes in
-      let ht = fits_fewer inputs v t.nodes m.nodes (merged_row_grows kinds t.value xs ys t.nodes) h in
+      let m = written_row kinds t.value t.value xs ys t.nodes in
+      let ht = fits_fewer inputs v t.nodes m.nodes (written_row_grows kinds t.value t.value xs ys t.nodes) h in
       let x = made_is inputs v kinds (Const (word d i)) nodes (record { least = l.least; most = l.most; fits = f })
       (fits_fewer inputs v k.nodes t.nodes tg ht) in
       let y = same_words_is inputs v kinds at k.value k.nodes (alike k.nodes at k.value d (wider nodes k.nodes at d kg a) x.wide) ht in
-      let r = merged_row_is n w t.value xs ys t.nodes y.wide (row_wider k.nodes t.nodes n w xs tg (row_wider nodes k.nodes n w xs kg p))
+      let r = written_row_is n w t.value t.value xs ys t.nodes y.wide (λ e. e) (row_wider k.nodes t.nodes n w xs tg (row_wider nodes k.nodes n w xs kg p))
       (row_wider k.nodes t.nodes n w ys tg (row_wider nodes k.nodes n w ys kg q)) h in
       let test : holds inputs v t.value ≡ ((v at.0).bits == i) =
       ap (λ (z : Number). z.bits == 1) y.is ∙ bit_is ((v at.0).bits == (v k.value.0).bits) ∙ ap (λ (z : Number). (v at.0).bits == z.bits) x.is in

@@ -14,14 +14,14 @@ use Rattle.ygg_shape_words.specs.ygg_bank.declared.node.Node.{Node}
 use Rattle.ygg_shape_words.specs.ygg_bank.declared.node.Node.TheVariants.{Const, Bin}
 use Rattle.ygg_shape_words.specs.Same.{same_words}
 use Rattle.ygg_shape_cells.specs.Lists.{each_from}
-use Rattle.ygg_shape_cells.specs.Making.{merged_row}
+use Rattle.ygg_shape_cells.specs.Making.{merged_row, written_row}
 use Rattle.ygg_shape_cells.specs.Terms.{row_of, table_of}
 
 -- one row where the test is 1 and the place, which is so wide, has this number, and else the other
 abbrev pub guarded_split : List RuleKind → Id → Id → ℕ → ℕ → List Id → List Id → Make (List Id)
 guarded_split kinds t at width number one two =
     and_make (made kinds (Const (word width number))) (λ k. and_make (same_words kinds at k)
-    (λ there. and_make (made kinds (Bin And t there)) (λ both. merged_row kinds both one two)))
+    (λ there. and_make (made kinds (Bin And t there)) (λ both. written_row kinds both there one two)))
 
 -- the same; a number with more digits than the place is never the place
 abbrev pub guarded_at : List RuleKind → Id → Id → ℕ → ℕ → List Id → List Id → Make (List Id)

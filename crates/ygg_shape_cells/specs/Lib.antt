@@ -14,6 +14,7 @@ pub use Rattle.ygg_shape_words.proofs.Terms as ygg_shape_words_proofs_Terms
 pub use Rattle.ygg_shape_words.specs as ygg_shape_words
 pub mod Lists
 pub mod Making
+pub mod Pruning
 pub mod Terms
 pub mod Pairs
 pub mod Sharing

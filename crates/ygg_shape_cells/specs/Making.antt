@@ -11,6 +11,7 @@ use Rattle.ygg_shape_words.specs.ygg_bank.declared.node.Node.{Node}
 use Rattle.ygg_shape_words.specs.ygg_bank.declared.node.Node.TheVariants.{Const, Pick}
 use Rattle.ygg_shape_words.specs.Picking.{picked}
 use Rattle.ygg_shape_words.specs.Same.{same_words}
+use Rattle.ygg_shape_cells.specs.Pruning.{given_row}
 use Rattle.ygg_shape_cells.specs.Lists.{each_two, each_from, fold_from}
 use Rattle.ygg_shape_cells.specs.Terms.{words_in}
 use Rattle.ygg_shape_cells.specs.declared.selecting.TheConstants.{PLACE_DEPTH}
@@ -32,10 +33,14 @@ merged kinds test (Row one) (Row two) = and_make (merged_row kinds test one two)
 merged kinds test (Table one) (Table two) = and_make (merged_rows kinds test one two) (λ table. pure (Table table))
 merged kinds test one two = pure one
 
+-- one row where a test is 1, its words as they are where another test is 1 that follows from the first, and else the other row
+abbrev pub written_row : List RuleKind → Id → Id → List Id → List Id → Make (List Id)
+written_row kinds test met new old nodes = merged_row kinds test (given_row nodes met new) old nodes
+
 -- one row where the place, which is so wide, has this number, and else the other
 abbrev pub split_at : List RuleKind → Id → ℕ → ℕ → List Id → List Id → Make (List Id)
 split_at kinds at width number one two =
-    and_make (made kinds (Const (word width number))) (λ k. and_make (same_words kinds at k) (λ test. merged_row kinds test one two))
+    and_make (made kinds (Const (word width number))) (λ k. and_make (same_words kinds at k) (λ test. written_row kinds test test one two))
 
 -- the same; a number with more digits than the place is never the place
 abbrev pub where_at : List RuleKind → Id → ℕ → ℕ → List Id → List Id → Make (List Id)

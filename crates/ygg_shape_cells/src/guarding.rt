@@ -9,6 +9,7 @@ ghost use Rattle.ygg_shape_cells.specs.Terms.{AreRows, CanStore, IsRow, IsTable,
 ghost use Rattle.ygg_shape_cells.specs.Guarding.{IsWrittenWhere, guarded_at, guarded_from, guarded_known, guarded_split, stored_where};
 
 use crate::cells::put_row;
+use crate::pruning::write_row;
 use crate::merging::merge_row;
 use crate::terms::{SymRow, SymTable};
 use std::alloc::Global;
@@ -210,5 +211,5 @@ fn guarded_split<B: Book>(
     let b = same(bank, book, guard.at, constant)?;
     let (op, a) = (Op::And, guard.test);
     let both = bank.make(Node::Bin { op, a, b }, book)?;
-    merge_row(alloc, bank, book, both, yes, no)
+    write_row(alloc, bank, book, both, b, yes, no)
 }

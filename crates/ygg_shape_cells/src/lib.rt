@@ -4,6 +4,7 @@
 
 pub mod cells;
 pub mod fresh;
+pub mod pruning;
 pub mod guarding;
 pub mod merging;
 pub mod pairs;

@@ -6,7 +6,7 @@ ghost use Rattle.ygg_shape_words.specs.ygg_bank.Nodes.{Extends, HasWidth, IsBank
 ghost use Rattle.ygg_shape_cells.specs.Making.{split_at, where_at};
 ghost use Rattle.ygg_shape_cells.specs.Terms.{IsRow, RowsAlike};
 
-use crate::merging::merge_row;
+use crate::pruning::write_row;
 use crate::terms::SymRow;
 use std::alloc::Global;
 use ygg_shape_words::{Bank, Book, Id, NoMemory, Node, fits, same};
@@ -74,5 +74,5 @@ fn split_at<B: Book>(
     };
     let constant = bank.make(Node::Const(word), book)?;
     let test = same(bank, book, place.at, constant)?;
-    merge_row(alloc, bank, book, test, yes, no)
+    write_row(alloc, bank, book, test, test, yes, no)
 }

@@ -22,14 +22,14 @@ make-requires-2 g c =
     (extends_both c.args.bank.now c.make.new.self c.same.new.bank c.make.ensures.grows c.same.ensures.grows) c.requires.test)
     c.in_ok-b.ensures.width
 
-pub merge_row-requires-clause-test : goal.merge_row-requires-clause-test
-merge_row-requires-clause-test g c =
+pub write_row-requires-clause-test : goal.write_row-requires-clause-test
+write_row-requires-clause-test g c =
     c.in_ok-both.ensures.width ∙ ap (λ z. Some z) (width_is c.same.new.bank c.args.guard.test 1
     (wider c.args.bank.now c.same.new.bank c.args.guard.test 1
     (extends_both c.args.bank.now c.make.new.self c.same.new.bank c.make.ensures.grows c.same.ensures.grows) c.requires.test))
 
-pub merge_row-requires-clause-rows : goal.merge_row-requires-clause-rows
-merge_row-requires-clause-rows g c =
+pub write_row-requires-clause-rows : goal.write_row-requires-clause-rows
+write_row-requires-clause-rows g c =
     rows_alike_wider c.args.bank.now c.make-2.new.self c.args.yes.now c.args.no.now c.args.yes.now c.args.no.now
     (extends_both c.args.bank.now c.make.new.self c.make-2.new.self c.make.ensures.grows
     (extends_both c.make.new.self c.same.new.bank c.make-2.new.self c.same.ensures.grows c.make-2.ensures.grows)) c.requires.rows refl refl
@@ -44,28 +44,28 @@ returns-in_err-both-clause-grows g c =
 
 pub returns-clause-grows : goal.returns-clause-grows
 returns-clause-grows g c =
-    extends_both c.args.bank.now c.make.new.self c.merge_row.new.bank c.make.ensures.grows
-    (extends_both c.make.new.self c.same.new.bank c.merge_row.new.bank c.same.ensures.grows
-    (extends_both c.same.new.bank c.make-2.new.self c.merge_row.new.bank c.make-2.ensures.grows c.merge_row.ensures.grows))
+    extends_both c.args.bank.now c.make.new.self c.write_row.new.bank c.make.ensures.grows
+    (extends_both c.make.new.self c.same.new.bank c.write_row.new.bank c.same.ensures.grows
+    (extends_both c.same.new.bank c.make-2.new.self c.write_row.new.bank c.make-2.ensures.grows c.write_row.ensures.grows))
 
 pub make-requires : goal.make-requires
 make-requires g c = record { least = c.requires.width.least; most = c.requires.width.most; fits = c.requires.number }
 
 pub returns-clause-nodes : goal.returns-clause-nodes
 returns-clause-nodes g c =
-    subst (λ (o : Out (List Id)). OnOk c.merge_row.result (c.merge_row.new.bank ≡ o.nodes))
+    subst (λ (o : Out (List Id)). OnOk c.write_row.result (c.write_row.new.bank ≡ o.nodes))
     (guarded_goes (g.B.Book.kinds c.args.book.now) c.args.guard.test c.args.guard.at c.args.guard.width c.args.number c.args.yes.now c.args.no.now
     c.in_ok-constant.constant
     c.in_ok-b.b c.in_ok-both.both c.args.bank.now c.make.new.self c.same.new.bank c.make-2.new.self c.in_ok-constant.ensures.id c.in_ok-constant.ensures.nodes
-    c.in_ok-b.ensures.form c.in_ok-b.ensures.nodes c.in_ok-both.ensures.id c.in_ok-both.ensures.nodes) c.merge_row.ensures.nodes
+    c.in_ok-b.ensures.form c.in_ok-b.ensures.nodes c.in_ok-both.ensures.id c.in_ok-both.ensures.nodes) c.write_row.ensures.nodes
 
 pub returns-clause-form : goal.returns-clause-form
 returns-clause-form g c =
-    subst (λ (o : Out (List Id)). IfOk c.merge_row.result (λ row. row ≡ o.value))
+    subst (λ (o : Out (List Id)). IfOk c.write_row.result (λ row. row ≡ o.value))
     (guarded_goes (g.B.Book.kinds c.args.book.now) c.args.guard.test c.args.guard.at c.args.guard.width c.args.number c.args.yes.now c.args.no.now
     c.in_ok-constant.constant
     c.in_ok-b.b c.in_ok-both.both c.args.bank.now c.make.new.self c.same.new.bank c.make-2.new.self c.in_ok-constant.ensures.id c.in_ok-constant.ensures.nodes
-    c.in_ok-b.ensures.form c.in_ok-b.ensures.nodes c.in_ok-both.ensures.id c.in_ok-both.ensures.nodes) c.merge_row.ensures.form
+    c.in_ok-b.ensures.form c.in_ok-b.ensures.nodes c.in_ok-both.ensures.id c.in_ok-both.ensures.nodes) c.write_row.ensures.form
 
 pub returns-in_err-constant-clause-nodes : goal.returns-in_err-constant-clause-nodes
 returns-in_err-constant-clause-nodes g c = IfOk-from_err c.from_residual.result _ c.from_residual.ensures.0
