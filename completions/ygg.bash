@@ -1,7 +1,7 @@
 # Completion of ygg's words in bash: its commands, and for each of these the files and words that it takes, in their order.
 
 _ygg() {
-    local commands='verify certify check print replay play format run solve cnf demo --help --version' word=${COMP_WORDS[COMP_CWORD]} takes names
+    local commands='verify certify check print replay play format run solve cnf decide demo --help --version' word=${COMP_WORDS[COMP_CWORD]} takes names
     COMPREPLY=()
     if [ "$COMP_CWORD" -eq 1 ]; then
         COMPREPLY=($(compgen -W "$commands" -- "$word"))
@@ -14,7 +14,7 @@ _ygg() {
     format) takes='layer any' ;;
     run) takes='layer any any any' ;;
     solve) takes='any' ;;
-    cnf) takes='layer obligation' ;;
+    cnf | decide) takes='layer obligation' ;;
     esac
     case $(set -- $takes && shift $((COMP_CWORD - 2)) 2>/dev/null && printf %s "${1-}") in
     layer) COMPREPLY=($(compgen -f -X '!*.ygg' -- "$word") $(compgen -d -S / -- "$word")) ;;

@@ -104,6 +104,8 @@ def words():
     yield ["verify", "file", "other"], files, "72 0:2", ["the second word is a budget, a number from 1 to 10000000", '"other" is none']
     yield ["demo", "65"], files, "72 0:1", ["from 1 to 64"]
     yield ["cnf", "file", "cut.put"], files, "74 0:2", ["no obligation of this name", "ygg verify FILE 1 lists the names"]
+    yield ["decide", "file", "cut.put"], files, "74 0:2", ["no obligation of this name", "ygg verify FILE 1 lists the names"]
+    yield ["decide", "file"], files, "71 0:0", ["decide takes other words", "ygg decide FILE OBLIGATION [BUDGET]"]
     yield ["verify", "file"], {"file": " " * 1048577}, "11 0:1", ['"file": the file is too large', "1048576"]
 
 

@@ -42,8 +42,13 @@ fn no_number(alloc: Global, words: &[Text], word: &str) -> Result<String, AllocE
             "ygg: demo takes a number of operations from 1 to 64; \"{word}\" is none\n"
         );
     }
+    let place = if command == "decide" {
+        "third"
+    } else {
+        "second"
+    };
     format!(in alloc;
-        "ygg: the second word is a budget, a number from 1 to 10000000; \"{word}\" is none\n"
+        "ygg: the {place} word is a budget, a number from 1 to 10000000; \"{word}\" is none\n"
     )
 }
 

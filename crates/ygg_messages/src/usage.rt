@@ -4,7 +4,7 @@ use std::alloc::{AllocError, Global};
 use strsim::osa_distance;
 
 /// How each command is called.
-const CALLS: [(&str, &str); 13] = [
+const CALLS: [(&str, &str); 14] = [
     (
         "verify",
         "ygg verify FILE [BUDGET]        does FILE survive power failure?",
@@ -38,6 +38,10 @@ const CALLS: [(&str, &str); 13] = [
     (
         "cnf",
         "ygg cnf FILE OBLIGATION         print the clauses of an obligation",
+    ),
+    (
+        "decide",
+        "ygg decide FILE OBLIGATION [BUDGET]  decide one obligation",
     ),
     (
         "demo",

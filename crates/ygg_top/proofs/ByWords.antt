@@ -8,9 +8,10 @@ use Rattle.ygg_top_command.proofs.Telling.{more_told}
 use Rattle.ygg_top_command.specs.Reports.{Told}
 use Rattle.ygg_top.specs.declared.words.Alone.{Alone}
 use Rattle.ygg_top.specs.declared.words.One.{One}
+use Rattle.ygg_top.specs.declared.words.Three.{Three}
 use Rattle.ygg_top.specs.declared.words.Two.{Two}
-use Rattle.ygg_top.specs.Ending.{Ends, EndsAlone, EndsOne, EndsTwo, IsLeft, LeavesOne, LeavesTwo, NamesNone}
-use Rattle.ygg_top.specs.Words.{alone_of, one_of, two_of}
+use Rattle.ygg_top.specs.Ending.{Ends, EndsAlone, EndsOne, EndsThree, EndsTwo, IsLeft, LeavesOne, LeavesTwo, NamesNone}
+use Rattle.ygg_top.specs.Words.{alone_of, one_of, three_of, two_of}
 
 one_word : (words : List (List ℕ)) (only : List ℕ) → 1 ≤ length words → length words < 2 → only ≡ slice_index_or words 0 only → words ≡ only ∷ []
 one_word [] only some few is = absurd (omega (arith, some))
@@ -31,6 +32,16 @@ three_words (a ∷ []) command first second some few c f s = absurd (omega (arit
 three_words (a ∷ b ∷ []) command first second some few c f s = absurd (omega (arith, some))
 three_words (a ∷ b ∷ d ∷ []) command first second some few c f s = cc (c, f, s)
 three_words (a ∷ b ∷ d ∷ e ∷ rest) command first second some few c f s = absurd (omega (arith, few))
+
+four_words : (words : List (List ℕ)) (command first second third : List ℕ) → 4 ≤ length words → length words < 5 →
+    command ≡ slice_index_or words 0 command → first ≡ slice_index_or words 1 first → second ≡ slice_index_or words 2 second →
+    third ≡ slice_index_or words 3 third → words ≡ command ∷ first ∷ second ∷ third ∷ []
+four_words [] command first second third some few c f s t = absurd (omega (arith, some))
+four_words (a ∷ []) command first second third some few c f s t = absurd (omega (arith, some))
+four_words (a ∷ b ∷ []) command first second third some few c f s t = absurd (omega (arith, some))
+four_words (a ∷ b ∷ d ∷ []) command first second third some few c f s t = absurd (omega (arith, some))
+four_words (a ∷ b ∷ d ∷ e ∷ []) command first second third some few c f s t = cc (c, f, s, t)
+four_words (a ∷ b ∷ d ∷ e ∷ g ∷ rest) command first second third some few c f s t = absurd (omega (arith, few))
 
 module _ (kinds : List RuleKind) (files : Option (List Held)) (before now : Option (List ℕ)) (LibraryRose SinkRose : Type 0) (result : Status) where
   abbrev Says : List (List ℕ) → Type 0
@@ -69,6 +80,18 @@ module _ (kinds : List RuleKind) (files : Option (List Held)) (before now : Opti
       (subst (λ (d : Two). Told (EndsTwo kinds files d first second) (LeavesTwo kinds files d first second) before now LibraryRose SinkRose result)
       (of ∙ ap two_of same) told)
 
+  -- four words
+  pub three_told : (words : List (List ℕ)) (asked first second third word : List ℕ) (command : Three) → 4 ≤ length words → length words < 5 →
+      asked ≡ slice_index_or words 0 asked → first ≡ slice_index_or words 1 first → second ≡ slice_index_or words 2 second →
+      third ≡ slice_index_or words 3 third → word ≡ asked → command ≡ three_of word →
+      Told (EndsThree kinds files command first second third) NoFront before now LibraryRose SinkRose result →
+      Told (Ends kinds words files) (IsLeft kinds words files) before now LibraryRose SinkRose result
+  unfolding Ends IsLeft
+  three_told words asked first second third word command some few c f s t same of told =
+      subst Says (sym (four_words words asked first second third some few c f s t))
+      (subst (λ (d : Three). Told (EndsThree kinds files d first second third) NoFront before now LibraryRose SinkRose result)
+      (of ∙ ap three_of same) told)
+
   -- no words
   pub none_told : (words : List (List ℕ)) → length words < 1 → Told NamesNone NoFront before now ⊥ SinkRose result →
       Told (Ends kinds words files) (IsLeft kinds words files) before now LibraryRose SinkRose result
@@ -76,15 +99,16 @@ module _ (kinds : List RuleKind) (files : Option (List Held)) (before now : Opti
   none_told [] few told = more_told NamesNone NoFront before now ⊥ LibraryRose SinkRose result (λ none. absurd none) told
   none_told (a ∷ rest) few told = absurd (omega (arith, few))
 
-  -- more than three words
-  pub many_told : (words : List (List ℕ)) → 4 ≤ length words → Told NamesNone NoFront before now ⊥ SinkRose result →
+  -- more than four words
+  pub many_told : (words : List (List ℕ)) → 5 ≤ length words → Told NamesNone NoFront before now ⊥ SinkRose result →
       Told (Ends kinds words files) (IsLeft kinds words files) before now LibraryRose SinkRose result
   unfolding Ends IsLeft
   many_told [] many told = absurd (omega (arith, many))
   many_told (a ∷ []) many told = absurd (omega (arith, many))
   many_told (a ∷ b ∷ []) many told = absurd (omega (arith, many))
   many_told (a ∷ b ∷ c ∷ []) many told = absurd (omega (arith, many))
-  many_told (a ∷ b ∷ c ∷ d ∷ rest) many told = more_told NamesNone NoFront before now ⊥ LibraryRose SinkRose result (λ none. absurd none) told
+  many_told (a ∷ b ∷ c ∷ d ∷ []) many told = absurd (omega (arith, many))
+  many_told (a ∷ b ∷ c ∷ d ∷ e ∷ rest) many told = more_told NamesNone NoFront before now ⊥ LibraryRose SinkRose result (λ none. absurd none) told
 
 -- a command with one word after it that is this one
 pub one_so : (kinds : List RuleKind) (files : Option (List Held)) (word : List ℕ) (before now : Option (List ℕ)) (LibraryRose SinkRose : Type 0)
@@ -102,3 +126,11 @@ pub two_so : (kinds : List RuleKind) (files : Option (List Held)) (first second 
 two_so kinds files first second before now LibraryRose SinkRose result command asked is told =
     subst (λ (c : Two). Told (EndsTwo kinds files c first second) (LeavesTwo kinds files c first second) before now LibraryRose SinkRose result)
     (sym is) told
+
+-- a command with three words after it that is this one
+pub three_so : (kinds : List RuleKind) (files : Option (List Held)) (first second third : List ℕ) (before now : Option (List ℕ))
+    (LibraryRose SinkRose : Type 0) (result : Status) (command asked : Three) → command ≡ asked →
+    Told (EndsThree kinds files asked first second third) NoFront before now LibraryRose SinkRose result →
+    Told (EndsThree kinds files command first second third) NoFront before now LibraryRose SinkRose result
+three_so kinds files first second third before now LibraryRose SinkRose result command asked is told =
+    subst (λ (c : Three). Told (EndsThree kinds files c first second third) NoFront before now LibraryRose SinkRose result) (sym is) told

@@ -28,5 +28,6 @@ mod ByWords
 mod Placed
 mod Sites
 mod Asked
+mod Decides
 mod Printed
 mod Solves

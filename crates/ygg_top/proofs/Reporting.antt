@@ -101,6 +101,7 @@ use Rattle.ygg_top.specs.Findings.{
   IsZeroAt,
   IsFirst,
   IsRefuting,
+  IsRefutingBy,
   IsEnd,
   IsUnreported,
   IsReported,
@@ -304,7 +305,7 @@ writes_in kinds f p all bank terms mean =
     subst (λ (ts : List Id). AllWrite nodes (claims_of f) ts) (sym terms)
     (file_writes kinds f p.derived p.typed p.schedules bank (subst (λ (ts : List Id). AreTermsOf nodes (claims_of f) ts) terms mean))
 
-same_claim : (o : Option Claim) (c d : Claim) → o ≡ Some c → o ≡ Some d → c ≡ d
+pub same_claim : (o : Option Claim) (c d : Claim) → o ≡ Some c → o ≡ Some d → c ≡ d
 same_claim o c d a b = let h : Some c ≡ Some d = sym a ∙ b in cc
 
 -- the name of the obligation at a place
@@ -342,6 +343,42 @@ module _ (kinds : List RuleKind) (f : File) (budget : ℕ) (p : Proper f) (q : O
       shown_at (inputs_of env) nodes cs (terms_in all) schedules
       (subst (λ (ts : List Id). AllExact (inputs_of env) nodes cs ts schedules) (sym terms_are) all_shown) place c z.obligation.term x there term named
       z.zero.zero
+
+  -- the schedule that is printed of an obligation whose term is 0 in an environment
+  module _ (name text : List ℕ) (place : ℕ) (env : List Given) (z : IsZeroAt nodes all place env) (e : IsRefutingBy kinds f name place env text) where
+    violated : ClaimViolated e.named.claim (meant e.named.claim e.schedule)
+    violated = shown place env z e.named.claim (meant e.named.claim e.schedule) e.named.there e.named.names
+
+    pub violating : IsViolation e.named.claim e.schedule
+    violating = record { name = e.named.name; violated = violated }
+
+    -- it is shown by `replay`
+    again : IsShownAgain f (claim_name e.named.claim) (text_of f e.schedule)
+    again =
+        let n = e.named in
+        let x = e.schedule in
+        shown_again f (claim_name n.claim) (text_of f x) q.one_ending
+        (λ bytes tokens accepted. subst (λ (title : List ℕ). Replaying f (text_of f x) Refuted (shows_line title)) n.name
+        (q.printed bytes tokens f accepted kinds (terms_of kinds f.defs) (inputs_of env) place x (record {
+          claim = n.claim;
+          there = n.there;
+          name = n.name;
+          names = n.names;
+          bounded = e.bounded;
+          violated = violated;
+        })))
+
+    -- and is what is printed of a refutation
+    pub refutes : name ≡ claim_name e.named.claim → IsRefutation f cs text
+    refutes named = record {
+      place = place;
+      claim = e.named.claim;
+      there = e.named.there;
+      schedule = e.schedule;
+      violating = violating;
+      text_is = e.text_is ∙ ap (λ (title : List ℕ). refutation f title e.schedule) named;
+      shown = again;
+    }
 
   -- a status and a text that are those of true verdicts
   abbrev Ended : Status → List ℕ → Type 0
@@ -439,41 +476,12 @@ module _ (kinds : List RuleKind) (f : File) (budget : ℕ) (p : Proper f) (q : O
       kept : (first_failed vs ≡ Some k.place) × IsZeroAt nodes all k.place k.env
       kept = kept_is nodes all (first_failed vs) k (subst (λ (o : Option Refutation). IsFirst nodes all (first_failed vs) o) some r.failed)
 
-      violated : ClaimViolated e.named.claim (meant e.named.claim e.schedule)
-      violated = shown k.place k.env kept.1 e.named.claim (meant e.named.claim e.schedule) e.named.there e.named.names
+      abbrev name : List ℕ
+      name = get_or names k.place []
 
-      violating : IsViolation e.named.claim e.schedule
-      violating = record { name = e.named.name; violated = violated }
-
-      -- it is shown by `replay`
-      again : IsShownAgain f (claim_name e.named.claim) (text_of f e.schedule)
-      again =
-          let n = e.named in
-          let x = e.schedule in
-          shown_again f (claim_name n.claim) (text_of f x) q.one_ending
-          (λ bytes tokens accepted. subst (λ (name : List ℕ). Replaying f (text_of f x) Refuted (shows_line name)) n.name
-          (q.printed bytes tokens f accepted kinds (terms_of kinds f.defs) (inputs_of k.env) k.place x (record {
-            claim = n.claim;
-            there = n.there;
-            name = n.name;
-            names = n.names;
-            bounded = e.bounded;
-            violated = violated;
-          })))
-
-      -- and is what is printed of a refutation
-      refutes : IsRefutation f cs text
-      refutes = record {
-        place = k.place;
-        claim = e.named.claim;
-        there = e.named.there;
-        schedule = e.schedule;
-        violating = violating;
-        text_is =
-            e.text_is ∙ ap (λ (ns : List (List ℕ)). refutation f (get_or ns k.place []) e.schedule) names_are
-            ∙ ap (λ (name : List ℕ). refutation f name e.schedule) (named_at cs k.place e.named.claim e.named.there);
-        shown = again;
-      }
+      -- the name is that of the obligation
+      name_is : name ≡ claim_name e.named.claim
+      name_is = ap (λ (ns : List (List ℕ)). get_or ns k.place []) names_are ∙ named_at cs k.place e.named.claim e.named.there
 
       some_ended : (status : Status) → status ≡ status_of summary → Ended status (found_lines names vs ++ text)
       some_ended status s =
@@ -483,14 +491,15 @@ module _ (kinds : List RuleKind) (f : File) (budget : ℕ) (p : Proper f) (q : O
           λ place c failed there.
           let same = same_place (first_failed vs) k.place place kept.0 failed in
           let here : slice_get cs place ≡ Some n.claim = subst (λ m. slice_get cs m ≡ Some n.claim) same n.there in
-          subst (λ (d : Claim). IsViolation d x) (same_claim (slice_get cs place) n.claim c here there) violating in
+          subst (λ (d : Claim). IsViolation d x) (same_claim (slice_get cs place) n.claim c here there)
+          (violating name text k.place k.env kept.1 e) in
           let first = first_whole nodes budget bank f x cs (terms_in all) vs mean writes r.are each violates in
           let w = first.all in
           let failed : any_failed w.verdicts ≡ true = w.failed ∙ ap (λ (o : Option ℕ). is_some o) kept.0 in
           ended_by w status text s (
           e.text_is ∙ ap (λ (ns : List (List ℕ)). refutation f (get_or ns k.place []) x) names_are ∙ sym (first.first k.place kept.0)
           ∙ sym (ap (λ b. if b then first_refuted f cs w.verdicts else if any_spent w.verdicts then undecided_line else verified_line (length cs)) failed)
-          ) (λ d. refutes)
+          ) (λ d. refutes name text k.place k.env kept.1 e name_is)
 
     by_summary : (status : Status) (text : List ℕ) (o : Option Refutation) → status ≡ status_of summary → summary.refuted ≡ o →
         MatchOption o (text ≡ (if summary.spent then undecided_line else verified_line (length names))) (λ k. IsRefuting kinds f names k text) →

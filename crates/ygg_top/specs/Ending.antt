@@ -12,6 +12,7 @@ use Rattle.ygg_top_command.specs.Words.{usual_budget}
 use Rattle.ygg_top.specs.Certifying.{Certified, IsCutCertifying}
 use Rattle.ygg_top.specs.Checking.{ChecksNamed}
 use Rattle.ygg_top.specs.Asking.{AsksNamed, IsCutAsking}
+use Rattle.ygg_top.specs.Deciding.{DecidesNamed, DecidesWithin}
 use Rattle.ygg_top.specs.Playing.{PlaysNamed, IsCutPlaying}
 use Rattle.ygg_top.specs.Printing.{Prints}
 use Rattle.ygg_top.specs.Replaying.{ReplaysNamed}
@@ -22,9 +23,11 @@ use Rattle.ygg_top.specs.declared.words.Alone.{Alone}
 use Rattle.ygg_top.specs.declared.words.Alone.TheVariants as alone
 use Rattle.ygg_top.specs.declared.words.One.{One}
 use Rattle.ygg_top.specs.declared.words.One.TheVariants as one
+use Rattle.ygg_top.specs.declared.words.Three.{Three}
+use Rattle.ygg_top.specs.declared.words.Three.TheVariants as three
 use Rattle.ygg_top.specs.declared.words.Two.{Two}
 use Rattle.ygg_top.specs.declared.words.Two.TheVariants as two
-use Rattle.ygg_top.specs.Words.{alone_of, one_of, two_of}
+use Rattle.ygg_top.specs.Words.{alone_of, one_of, three_of, two_of}
 
 -- all was done, and this text is printed
 abbrev pub IsDone : List ℕ → Status → List ℕ → Type 0
@@ -56,15 +59,22 @@ EndsTwo kinds files two.Replay name schedule = ReplaysNamed files name schedule
 EndsTwo kinds files two.Play name script = PlaysNamed files name script
 EndsTwo kinds files two.Solve name budget = DoesWithin Solves files name budget
 EndsTwo kinds files two.Cnf name obligation = AsksNamed kinds files name obligation
+EndsTwo kinds files two.Decide name obligation = DecidesNamed kinds usual_budget files name obligation
 EndsTwo kinds files two.Certify name budget = DoesWithin (Certified kinds) files name budget
 EndsTwo kinds files two.Check name certificate = ChecksNamed kinds files name certificate
 EndsTwo kinds files two.Other first second = NamesNone
+
+-- a command with three words after it
+unfoldable pub EndsThree : List RuleKind → Option (List Held) → Three → List ℕ → List ℕ → List ℕ → Status → List ℕ → Type 0
+EndsThree kinds files three.Decide name obligation budget = DecidesWithin kinds files name obligation budget
+EndsThree kinds files three.Other first second third = NamesNone
 
 -- a command of these words over a library, under a book of these kinds, ends with the status and prints the text
 unfoldable pub Ends : List RuleKind → List (List ℕ) → Option (List Held) → Status → List ℕ → Type 0
 Ends kinds (command ∷ []) files = EndsAlone (alone_of command)
 Ends kinds (command ∷ first ∷ []) files = EndsOne kinds files (one_of command) first
 Ends kinds (command ∷ first ∷ second ∷ []) files = EndsTwo kinds files (two_of command) first second
+Ends kinds (command ∷ first ∷ second ∷ third ∷ []) files = EndsThree kinds files (three_of command) first second third
 Ends kinds words files = NamesNone
 
 -- what a command with one word after it may leave that puts its text piece by piece and is cut short

@@ -22,6 +22,7 @@ pub mod Ending
 pub mod Imaging
 pub mod Printed
 pub mod Asking
+pub mod Deciding
 pub mod Printing
 pub mod Solving
 pub mod Fetched

@@ -7,6 +7,8 @@ use Rattle.ygg_top.specs.declared.words.OnImage.{OnImage}
 use Rattle.ygg_top.specs.declared.words.OnImage.TheVariants as on
 use Rattle.ygg_top.specs.declared.words.One.{One}
 use Rattle.ygg_top.specs.declared.words.One.TheVariants as one
+use Rattle.ygg_top.specs.declared.words.Three.{Three}
+use Rattle.ygg_top.specs.declared.words.Three.TheVariants as three
 use Rattle.ygg_top.specs.declared.words.Two.{Two}
 use Rattle.ygg_top.specs.declared.words.Two.TheVariants as two
 
@@ -33,8 +35,13 @@ two_of word =
     if bytes_eq word (codes "play") then two.Play else
     if bytes_eq word (codes "solve") then two.Solve else
     if bytes_eq word (codes "cnf") then two.Cnf else
+    if bytes_eq word (codes "decide") then two.Decide else
     if bytes_eq word (codes "certify") then two.Certify else
     if bytes_eq word (codes "check") then two.Check else two.Other
+
+-- what a word asks for after which three words stand
+abbrev pub three_of : List ℕ → Three
+three_of word = if bytes_eq word (codes "decide") then three.Decide else three.Other
 
 -- what a word asks for that names a command on an image
 abbrev pub on_image : List ℕ → OnImage

@@ -6,7 +6,7 @@ ghost use Rattle.ygg_base.specs.Outside.{Rose};
 ghost use Rattle.ygg_report.specs.Putting.{NoFront};
 ghost use Rattle.ygg_top_command.specs.Reports.{Told};
 ghost use Rattle.ygg_top_command.specs.Breaking.{ToldOn};
-ghost use Rattle.ygg_top.specs.Ending.{EndsAlone, EndsOne, EndsTwo, LeavesOne, LeavesTwo, NamesNone};
+ghost use Rattle.ygg_top.specs.Ending.{EndsAlone, EndsOne, EndsThree, EndsTwo, LeavesOne, LeavesTwo, NamesNone};
 ghost use Rattle.ygg_top.specs.Imaging.{EndsOn, IsLeftOn, IsBrokenOn, KeepsOn, UsesImage};
 
 use crate::asking::cnf;
@@ -16,8 +16,10 @@ use crate::playing::play;
 use crate::print_command::print;
 use crate::running::run;
 use crate::solving::{solve, solve_within};
-use crate::words::{Alone, OnImage, One, Two};
-use crate::{certify, certify_within, check, demo, replay, verify, verify_within};
+use crate::words::{Alone, OnImage, One, Three, Two};
+use crate::{
+    certify, certify_within, check, decide, decide_within, demo, replay, verify, verify_within,
+};
 use std::alloc::Global;
 use ygg_base::{Device, Library, Reason, Sink, Status, Text};
 use ygg_report::put_all;
@@ -25,8 +27,9 @@ use ygg_rules::{Book, RuleBook};
 use ygg_top_command::{CommandStop, USUAL_BUDGET, end};
 
 /// Runs the command that the words name, and ends with its status: `verify FILE`, `verify FILE BUDGET`, `print FILE`, `demo N`, `replay FILE SCHEDULE`,
-/// `play FILE SCRIPT`, `solve CNF`, `solve CNF BUDGET`, `cnf FILE OBLIGATION`, `certify FILE`, `certify FILE BUDGET`, `check FILE CERTIFICATE`,
-/// `format FILE IMAGE`, `run FILE CERTIFICATE IMAGE SCRIPT`, and alone `--help` or `--version`. Other words are refused 71 at `0:0`. Nothing is printed before
+/// `play FILE SCRIPT`, `solve CNF`, `solve CNF BUDGET`, `cnf FILE OBLIGATION`, `decide FILE OBLIGATION`, `decide FILE OBLIGATION BUDGET`, `certify FILE`,
+/// `certify FILE BUDGET`, `check FILE CERTIFICATE`, `format FILE IMAGE`, `run FILE CERTIFICATE IMAGE SCRIPT`, and alone `--help` or `--version`.
+/// Other words are refused 71 at `0:0`. Nothing is printed before
 /// all refusals are judged; the lines of `verify` are put one by one, each as soon as its obligation is decided, those of `play` as its history goes on, and
 /// those of `run` as its commands are done; long texts of `certify`, `solve` and `cnf` piece by piece, and the others at the end. Only `format` and `run` use
 /// the device.
@@ -92,7 +95,10 @@ fn named<B: Book, L: Library, D: Device, K: Sink>(
                 with_two(alloc, rules, command, first, second, library, sink)
             }
         },
-        [_, _, _, _] => unnamed(alloc, sink),
+        [command, first, second, third] => {
+            let command = Three::of(command.as_slice());
+            with_three(alloc, rules, command, first, second, third, library, sink)
+        }
         [command, file, certificate, image, script] => match OnImage::of(command.as_slice()) {
             OnImage::Run => run(
                 alloc,
@@ -180,8 +186,32 @@ fn with_two<B: Book, L: Library, K: Sink>(
         Two::Play => play(alloc, first, second, library, sink),
         Two::Solve => solve_within(alloc, first, second, library, sink),
         Two::Cnf => cnf(alloc, rules, first, second, library, sink),
+        Two::Decide => decide(alloc, rules, first, second, USUAL_BUDGET, library, sink),
         Two::Certify => certify_within(alloc, rules, first, second, library, sink),
         Two::Check => check(alloc, rules, first, second, library, sink),
         Two::Other => unnamed(alloc, sink),
+    }
+}
+
+/// A command with three words after it.
+fn with_three<B: Book, L: Library, K: Sink>(
+    alloc: Global,
+    rules: &B,
+    command: Three,
+    first: &Text,
+    second: &Text,
+    third: &Text,
+    library: &mut L,
+    sink: &mut K,
+) -> Status
+    ensures told { Told (EndsThree (B.kinds rules.now) (L.files library.old) command first.now second.now third.now) NoFront (K.taken sink.old)
+        (K.taken sink.new) (Rose (L.faults library.old) (L.faults library.new)) (Rose (K.faults sink.old) (K.faults sink.new)) result }
+    ensures kept { L.files library.new ≡ L.files library.old }
+    ensures later_library { L.faults library.old ≤ L.faults library.new }
+    ensures later_sink { K.faults sink.old ≤ K.faults sink.new }
+{
+    match command {
+        Three::Decide => decide_within(alloc, rules, first, second, third, library, sink),
+        Three::Other => unnamed(alloc, sink),
     }
 }

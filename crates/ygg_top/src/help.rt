@@ -16,11 +16,13 @@ ygg verifies storage software that must survive power failure.
                              checks CERT, and runs the layers of FILE on IMAGE
   ygg solve CNF [BUDGET]     solves the clauses of CNF, a text in the DIMACS form
   ygg cnf FILE OBLIGATION    prints the clauses of an obligation in that form
+  ygg decide FILE OBLIGATION [BUDGET]
+                             decides one obligation of FILE
   ygg demo N                 verifies a made file of N operations, from 1 to 64
   ygg --help                 prints this text
   ygg --version              prints the version
 
-BUDGET is how many clauses may be learned, by verify and certify for each
+BUDGET is how many clauses may be learned, by verify, certify and decide for each
 obligation, from 1 to 10000000; left out, it is 200000.
 
 verify prints a line for each obligation, as soon as it is decided:
@@ -30,6 +32,9 @@ verify prints a line for each obligation, as soon as it is decided:
   spent NAME K   K clauses were learned, the whole budget, and it is open
 
 certify prints what verify does, where not all of them hold.
+
+decide prints the line that verify does; where the obligation fails, then refuted
+NAME and a schedule that violates it.
 
 check prints one line:
 
@@ -76,6 +81,7 @@ cnf prints clauses that are satisfiable exactly where the obligation fails.
 How commands end, and the last line that they print:
 
   0  verified N                   all N obligations hold
+  0  holds NAME                   decide: the obligation holds
   0  end                          certify: the certificate was printed
   0  checked N                    the certificate is one of the file
   0  the canonical text           print
@@ -92,6 +98,7 @@ How commands end, and the last line that they print:
   2  hypothesis I, or holds BITS  replay: the obligation is not violated
   3  undecided                    none fails, and one has spent its budget
   3  undecided                    solve: the budget was spent
+  3  spent NAME K                 decide: so it was
   4  fault library                a file could not be read
   4  fault device                 an image could not be read or written
   4  (no such line)               the output failed

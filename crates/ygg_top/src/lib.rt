@@ -1,5 +1,5 @@
 //! The top call: words in, status and printed lines out; and its commands. `verify` and `demo` decide the obligations of a layer file, `certify` and `check`
-//! make and check certificates of them, and `replay` runs a schedule of one. `print` prints a file, `solve` and `cnf` take and
+//! make and check certificates of them, `decide` decides one, and `replay` runs a schedule of one. `print` prints a file, `solve` and `cnf` take and
 //! give sets of clauses, `play` runs the layers of a file over a disk in memory, and over the image of their disk `format`, which makes it, and
 //! `run`, once a certificate shows that they are right.
 #![tactic(auto)]
@@ -10,6 +10,7 @@ mod certifying;
 mod checking;
 mod command;
 mod counting;
+mod deciding;
 mod finding;
 mod formatting;
 mod help;
@@ -32,6 +33,7 @@ pub use asking::cnf;
 pub use certifying::{certify, certify_within};
 pub use checking::{check, checked_stored};
 pub use command::ygg;
+pub use deciding::{decide, decide_within};
 pub use formatting::format;
 pub use law::play_ends_one_way;
 pub use naming::is_obligation;

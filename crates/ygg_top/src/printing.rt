@@ -13,7 +13,7 @@ use ygg_oblige::{Obligation, obligations};
 use ygg_sched::Typed;
 
 /// The place of the first obligation of this name.
-fn place_of(all: &[Obligation], name: &[u8]) -> Option<usize>
+pub fn place_of(all: &[Obligation], name: &[u8]) -> Option<usize>
     ensures found { IfSome result (IsPlace all.now name.now) }
     ensures none { IsNone result → Contains (names_in all.now) name.now → ⊥ }
 {

@@ -1,7 +1,7 @@
 //! What the first word of a command asks for, by the number of words after it.
 
 ghost use Rattle.std.specs.Prelude.{◌≡◌};
-ghost use Rattle.ygg_top.specs.Words.{alone_of, on_image, one_of, two_of};
+ghost use Rattle.ygg_top.specs.Words.{alone_of, on_image, one_of, three_of, two_of};
 
 /// The commands of a word alone.
 #[derive(Clone, Copy, Drop)]
@@ -44,10 +44,21 @@ pub enum Two {
     Solve,
     /// `cnf FILE OBLIGATION`.
     Cnf,
+    /// `decide FILE OBLIGATION`.
+    Decide,
     /// `certify FILE BUDGET`.
     Certify,
     /// `check FILE CERTIFICATE`.
     Check,
+    /// None.
+    Other,
+}
+
+/// The commands with three words after them.
+#[derive(Clone, Copy, Drop)]
+pub enum Three {
+    /// `decide FILE OBLIGATION BUDGET`.
+    Decide,
     /// None.
     Other,
 }
@@ -122,6 +133,9 @@ impl Two {
         if word == b"cnf".as_slice() {
             return Two::Cnf;
         }
+        if word == b"decide".as_slice() {
+            return Two::Decide;
+        }
         if word == b"certify".as_slice() {
             return Two::Certify;
         }
@@ -129,6 +143,18 @@ impl Two {
             return Two::Check;
         }
         Two::Other
+    }
+}
+
+impl Three {
+    /// What the word asks for.
+    pub fn of(word: &[u8]) -> Three
+        ensures { result ≡ three_of word.now }
+    {
+        if word == b"decide".as_slice() {
+            return Three::Decide;
+        }
+        Three::Other
     }
 }
 

@@ -3,7 +3,7 @@ use Rattle.ygg_base.specs.Outside.{Rose}
 use Rattle.ygg_top.specs.Imaging.{UsesImage}
 use Rattle.ygg_top.proofs.Imaged.{off_told, off_keeps, no_format, no_run, not_format, not_run, few_no_image, four_no_image, many_no_image, five_words}
 use Rattle.ygg_top.proofs.Imaged.{format_told, run_told, format_keeps, run_keeps, is_format, is_run}
-use Rattle.ygg_top.proofs.ByWords.{alone_told, one_told, two_told, none_told, many_told, three_words}
+use Rattle.ygg_top.proofs.ByWords.{alone_told, one_told, two_told, three_told, none_told, many_told, three_words}
 use Rattle.ygg_top.proofs.command.named.Goals as goal
 
 pub returns-in-empty-clause-told : goal.returns-in-empty-clause-told
@@ -135,15 +135,17 @@ returns-in-Format g c =
 pub returns-in-len4-clause-told : goal.returns-in-len4-clause-told
 returns-in-len4-clause-told g c =
     off_told (g.B.Book.kinds c.args.rules.now) (g.L.Library.files c.args.library.now) (g.D.Device.images c.args.device.now)
-    (g.D.Device.images c.args.device.now) (g.K.Sink.taken c.args.sink.now) (g.K.Sink.taken c.unnamed-in-len4.new.sink)
-    (Rose (g.L.Library.faults c.args.library.now) (g.L.Library.faults c.args.library.now))
+    (g.D.Device.images c.args.device.now) (g.K.Sink.taken c.args.sink.now) (g.K.Sink.taken c.with_three.new.sink)
+    (Rose (g.L.Library.faults c.args.library.now) (g.L.Library.faults c.with_three.new.library))
     (Rose (g.D.Device.faults c.args.device.now) (g.D.Device.faults c.args.device.now))
-    (Rose (g.K.Sink.faults c.args.sink.now) (g.K.Sink.faults c.unnamed-in-len4.new.sink)) c.unnamed-in-len4.result c.args.words.now
+    (Rose (g.K.Sink.faults c.args.sink.now) (g.K.Sink.faults c.with_three.new.sink)) c.with_three.result c.args.words.now
     (four_no_image c.args.words.now c.in-len4.len_at_least c.in-len4.len_below)
-    (many_told (g.B.Book.kinds c.args.rules.now) (g.L.Library.files c.args.library.now) (g.K.Sink.taken c.args.sink.now)
-    (g.K.Sink.taken c.unnamed-in-len4.new.sink) (Rose (g.L.Library.faults c.args.library.now) (g.L.Library.faults c.args.library.now))
-    (Rose (g.K.Sink.faults c.args.sink.now) (g.K.Sink.faults c.unnamed-in-len4.new.sink)) c.unnamed-in-len4.result c.args.words.now c.in-len4.len_at_least
-    c.unnamed-in-len4.ensures.told)
+    (three_told (g.B.Book.kinds c.args.rules.now) (g.L.Library.files c.args.library.now) (g.K.Sink.taken c.args.sink.now)
+    (g.K.Sink.taken c.with_three.new.sink) (Rose (g.L.Library.faults c.args.library.now) (g.L.Library.faults c.with_three.new.library))
+    (Rose (g.K.Sink.faults c.args.sink.now) (g.K.Sink.faults c.with_three.new.sink)) c.with_three.result c.args.words.now
+    c.command-item-in-len4.result c.first-item-in-len4.result c.second-item-in-len4.result c.third-item.result c.as_slice-in-len4.result.now
+    c.of-command-in-len4.result c.in-len4.len_at_least c.in-len4.len_below c.command-item-in-len4.is c.first-item-in-len4.is c.second-item-in-len4.is
+    c.third-item.is c.as_slice-in-len4.ensures c.of-command-in-len4.ensures c.with_three.ensures.told)
 
 pub returns-in-len4-clause-leaves : goal.returns-in-len4-clause-leaves
 returns-in-len4-clause-leaves g c =

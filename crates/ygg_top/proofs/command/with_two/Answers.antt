@@ -46,6 +46,14 @@ returns-in-Cnf-clause-told g c =
     (Rose (g.K.Sink.faults c.args.sink.now) (g.K.Sink.faults c.cnf.new.sink)) c.cnf.result c.args.command command.Cnf c.in-Cnf.is
     c.cnf.ensures.told
 
+pub returns-in-Decide-clause-told : goal.returns-in-Decide-clause-told
+unfolding EndsTwo LeavesTwo
+returns-in-Decide-clause-told g c =
+    two_so (g.B.Book.kinds c.args.rules.now) (g.L.Library.files c.args.library.now) c.args.first.now c.args.second.now (g.K.Sink.taken c.args.sink.now)
+    (g.K.Sink.taken c.decide.new.sink) (Rose (g.L.Library.faults c.args.library.now) (g.L.Library.faults c.decide.new.library))
+    (Rose (g.K.Sink.faults c.args.sink.now) (g.K.Sink.faults c.decide.new.sink)) c.decide.result c.args.command command.Decide c.in-Decide.is
+    c.decide.ensures.told
+
 pub returns-in-Certify-clause-told : goal.returns-in-Certify-clause-told
 unfolding EndsTwo LeavesTwo
 returns-in-Certify-clause-told g c =
