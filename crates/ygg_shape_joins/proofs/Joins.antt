@@ -1,5 +1,5 @@
 -- What joined words are worth, and what stays as they are made.
-use Rattle.std.proofs.Common.{◌≡◌, ◌==◌, ℕ, ◌||◌, Bool, true, false, if◌then◌else◌, Option, Some, None, List, slice_get, refl, sym, ap, ◌∙◌}
+use Rattle.std.proofs.Common.{◌≡◌, ◌==◌, ℕ, ◌||◌, Bool, true, false, if◌then◌else◌, Option, Some, List, slice_get, refl, sym, ap, ◌∙◌}
 use Rattle.std.proofs.lemmas.Bool.Decides.{Decides-eqb}
 use Rattle.ygg_value.specs.Number.{Number}
 use Rattle.ygg_value.specs.Words.{word, bit_of, apply_to}
@@ -8,14 +8,13 @@ use Rattle.ygg_shape_words.specs.ygg_rules.declared.rule.RuleKind.{RuleKind}
 use Rattle.ygg_shape_words.specs.ygg_bank_proofs_Made.{made_grows}
 use Rattle.ygg_shape_words.specs.ygg_bank_proofs_Meaning.{fits_fewer}
 use Rattle.ygg_shape_words.specs.ygg_bank_proofs_Widths.{extends_self, wider, width_is}
-use Rattle.ygg_shape_words.specs.ygg_bank.Makes.{Make}
 use Rattle.ygg_shape_words.specs.ygg_bank.Making.{made}
 use Rattle.ygg_shape_words.specs.ygg_bank.Nodes.{HasWidth, Extends}
 use Rattle.ygg_shape_words.specs.ygg_bank.Values.{Inputs, Values, Fits}
 use Rattle.ygg_shape_words.specs.ygg_bank.declared.node.Id.{Id}
 use Rattle.ygg_shape_words.specs.ygg_bank.declared.node.Node.{Node}
 use Rattle.ygg_shape_words.specs.ygg_bank.declared.node.Node.TheVariants.{Bin, Pick}
-use Rattle.ygg_shape_words.proofs.Children.{PickHas, pick_children}
+use Rattle.ygg_shape_words.proofs.Children.{pick_children}
 use Rattle.ygg_shape_words.proofs.Fit.{can_or}
 use Rattle.ygg_shape_words.proofs.Grows.{picked_grows}
 use Rattle.ygg_shape_words.proofs.Keeps.{Stays, grows_stays, picked_keeps}
@@ -25,7 +24,7 @@ use Rattle.ygg_shape_words.specs.Picking.{picked}
 use Rattle.ygg_shape_cells.proofs.Keeps.{either_keeps, each_two_keeps}
 use Rattle.ygg_shape_cells.specs.declared.terms.SymValue.{SymValue}
 use Rattle.ygg_shape_cells.specs.declared.terms.SymValue.TheVariants as value
-use Rattle.ygg_shape_joins.specs.Joining.{picked_either, joined_pick, joined_as, joined_word, joined_row, joined_rows, joined, joined_all}
+use Rattle.ygg_shape_joins.specs.Joining.{picked_either, joined_as, joined_word, joined_row, joined_rows, joined, joined_all}
 
 module _ (kinds : List RuleKind) (P : List Node → Type 0) (stays : Stays kinds P) where
   as_keeps : (t a b : Id) (n : Option Node) (nodes : List Node) → P nodes → P (joined_as kinds t a b n nodes).nodes

@@ -1,5 +1,5 @@
 -- What merging makes in a bank, under a book of these kinds, where picks of one word under two tests are one pick under either test.
-use Rattle.std.specs.Prelude.{◌==◌, if◌then◌else◌, Option, Some, None, List, slice_get}
+use Rattle.std.specs.Prelude.{◌==◌, if◌then◌else◌, Option, Some, List, slice_get}
 use Rattle.ygg_value.specs.declared.operation.Op.TheVariants.{Or}
 use Rattle.ygg_shape_words.specs.ygg_rules.declared.rule.RuleKind.{RuleKind}
 use Rattle.ygg_shape_words.specs.ygg_bank.Makes.{Make, pure, and_make}

@@ -9,14 +9,15 @@ ghost use Rattle.ygg_shape_joins.specs.Joining.{joined, joined_row, joined_rows}
 ghost use Rattle.ygg_shape_cells.specs.Meaning.{IsMerged};
 ghost use Rattle.ygg_shape_cells.specs.Terms.{AreAlike, HasShape, RowsAlike, TablesAlike};
 
-use ygg_shape_cells::{SymRow, SymTable, SymValue};
+use crate::words::join_word;
 use std::alloc::Global;
 use ygg_list::Duplicate;
-use crate::words::join_word;
+use ygg_shape_cells::{SymRow, SymTable, SymValue};
 use ygg_shape_words::{Bank, Book, Id, NoMemory};
 
-/// The value that is `yes` where the test is 1, and `no` where it is 0, in every environment. It picks word by word, asks
-/// nothing of words that are one term, and joins the tests of words that are a pick of the same word. Its only error is out of memory, after which the bank may have more nodes.
+/// The value that is `yes` where the test is 1, and `no` where it is 0, in every environment. It picks word by word, asks nothing of words that are
+/// one term, and joins the tests where the word of `no` is a pick of that of `yes`. Its only error is out of memory, after which the bank may have
+/// more nodes.
 pub fn join<B: Book>(
     alloc: Global,
     bank: &mut Bank,

@@ -8,7 +8,13 @@ use ygg_shape_words::{Bank, Book, Id, NoMemory, Node, pick};
 use ygg_value::Op;
 
 /// The word `yes` where the test is 1, and else `no`. Where `no` is a pick of `yes` under another test, one pick stands under either test.
-pub fn join_word<B: Book>(bank: &mut Bank, book: &B, test: Id, yes: Id, no: Id) -> Result<Id, NoMemory>
+pub fn join_word<B: Book>(
+    bank: &mut Bank,
+    book: &B,
+    test: Id,
+    yes: Id,
+    no: Id,
+) -> Result<Id, NoMemory>
     requires bank { IsBank bank.old }
     requires pick { CanPick bank.old test yes no }
     ensures nodes { OnOk result (bank.new ≡ (joined_word (B.kinds book.now) test yes no bank.old).nodes) }

@@ -1,8 +1,6 @@
 -- States that are joined: as merged ones, where picks of one word under two tests are one pick.
 use Rattle.std.proofs.Common.{◌≡◌, if◌then◌else◌, List, [], ◌∷◌, ap, ◌∙◌, subst, sym, Result, Ok, Err, IfOk, OnOk}
-use Rattle.ygg_value.specs.declared.row.Value.{Value}
 use Rattle.ygg_syntax.specs.declared.tree.Declared.{Declared}
-use Rattle.ygg_sym_runs.specs.ygg_meaning.Environments.{Env}
 use Rattle.ygg_sym_runs.specs.ygg_meaning.Shapes.{shape_in}
 use Rattle.ygg_sym_runs.specs.ygg_rules.declared.rule.RuleKind.{RuleKind}
 use Rattle.ygg_sym_runs.specs.ygg_bank_proofs_Meaning.{fits_fewer}

@@ -1,4 +1,4 @@
-use Rattle.std.proofs.Common.{Some, sym, ap, ◌∙◌}
+use Rattle.std.proofs.Common.{Some, ap, ◌∙◌}
 use Rattle.ygg_shape_words.specs.ygg_bank_proofs_Widths.{has_width, wider}
 use Rattle.ygg_shape_words.specs.ygg_bank.Nodes.{width_at, widths_of}
 use Rattle.ygg_shape_words.proofs.Fit.{can_pick}

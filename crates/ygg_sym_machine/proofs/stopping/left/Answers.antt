@@ -1,5 +1,6 @@
 use Rattle.ygg_value.specs.declared.operation.Op.TheVariants.{Or}
 use Rattle.ygg_sym_runs.specs.ygg_bank.Making.{made}
+use Rattle.ygg_sym_runs.specs.ygg_bank.declared.node.Id.{Id}
 use Rattle.ygg_sym_runs.specs.ygg_bank.declared.node.Node.TheVariants.{Bin}
 use Rattle.ygg_sym_runs.specs.ygg_bank_proofs_Widths.{extends_both, wider}
 use Rattle.ygg_sym_runs.specs.Lower.{question_of}
@@ -69,10 +70,10 @@ returns-clause-nodes g c =
     let kinds = g.B.Book.kinds c.args.book.now in
     let q = question_of c.args.question in
     let z = halted_of c.args.to.now c.args.fallen.now c.args.stopped in
-    let leave = λ h w. sym_leaves kinds no_functions (M.machine kinds) (stops_on M K kinds) h w q z in
+    let leave = λ (h w : Id). sym_leaves kinds no_functions (M.machine kinds) (stops_on M K kinds) h w q z in
     nodes_as (leave c.in_ok-outer.outer c.in_ok-inner.inner c.first-2.new.bank)
     (sym_left kinds no_functions (M.machine kinds) (stops_on M K kinds) c.args.here c.args.within q z c.args.bank.now) c.leaves.new.bank c.leaves.result
-    (left_from (first_made kinds) (λ a b. made kinds (Bin Or a b)) leave c.args.stopped c.args.here c.args.within c.in_ok-outer.outer c.in_ok-some.some
+    (left_from (first_made kinds) (λ (a b : Id). made kinds (Bin Or a b)) leave c.args.stopped c.args.here c.args.within c.in_ok-outer.outer c.in_ok-some.some
     c.in_ok-inner.inner c.args.bank.now c.first.new.bank c.either.new.bank c.first-2.new.bank c.in_ok-outer.ensures.form c.in_ok-outer.ensures.nodes
     c.in_ok-some.ensures.form c.in_ok-some.ensures.nodes c.in_ok-inner.ensures.form c.in_ok-inner.ensures.nodes) c.leaves.ensures.nodes
 
@@ -83,10 +84,10 @@ returns-clause-form g c =
     let kinds = g.B.Book.kinds c.args.book.now in
     let q = question_of c.args.question in
     let z = halted_of c.args.to.now c.args.fallen.now c.args.stopped in
-    let leave = λ h w. sym_leaves kinds no_functions (M.machine kinds) (stops_on M K kinds) h w q z in
+    let leave = λ (h w : Id). sym_leaves kinds no_functions (M.machine kinds) (stops_on M K kinds) h w q z in
     form_as (leave c.in_ok-outer.outer c.in_ok-inner.inner c.first-2.new.bank)
     (sym_left kinds no_functions (M.machine kinds) (stops_on M K kinds) c.args.here c.args.within q z c.args.bank.now) c.leaves.result
-    (left_from (first_made kinds) (λ a b. made kinds (Bin Or a b)) leave c.args.stopped c.args.here c.args.within c.in_ok-outer.outer c.in_ok-some.some
+    (left_from (first_made kinds) (λ (a b : Id). made kinds (Bin Or a b)) leave c.args.stopped c.args.here c.args.within c.in_ok-outer.outer c.in_ok-some.some
     c.in_ok-inner.inner c.args.bank.now c.first.new.bank c.either.new.bank c.first-2.new.bank c.in_ok-outer.ensures.form c.in_ok-outer.ensures.nodes
     c.in_ok-some.ensures.form c.in_ok-some.ensures.nodes c.in_ok-inner.ensures.form c.in_ok-inner.ensures.nodes) c.leaves.ensures.form
 
