@@ -1,5 +1,5 @@
 -- Ends of runs, compared.
-use Rattle.std.proofs.Common.{◌≡◌, ℕ, List, [], Option, Some, None, sym, subst}
+use Rattle.std.proofs.Common.{◌≡◌, ℕ, List, [], Option, Some, None, sym, subst, Result, Ok, Err, OnOk, IsErr}
 use Rattle.ygg_syntax.specs.declared.tree.Declared.{Declared}
 use Rattle.ygg_oblige_parts.specs.ygg_meaning.Obligations.{Obligation}
 use Rattle.ygg_oblige_parts.specs.ygg_bank_proofs_Widths.{wider}
@@ -56,3 +56,8 @@ wake_later l g old new o first hypothesis vars args fallen e k f = record {
   vars_are = low_wider old new (variables_of (closed l) o) vars e f.vars_are;
   args_are = low_wider old new (arguments_of o) args e f.args_are;
 }
+
+-- an error owes nothing of a value
+pub on_ok_refused : {A E : Type 0} (r : Result A E) (P : Type 0) → IsErr r → OnOk r P
+on_ok_refused (Ok a) P h = absurd (cc)
+on_ok_refused (Err e) P h = tt

@@ -6,6 +6,7 @@ use Rattle.ygg_oblige_parts.specs.ygg_sym_runs_proofs_Lows.{low_wider}
 use Rattle.ygg_oblige_parts.specs.Makers.{starting_of}
 use Rattle.ygg_oblige.specs.Numbering.{numbers_in}
 use Rattle.ygg_oblige.specs.Parts.{again_after, recovery_cut}
+use Rattle.ygg_oblige.proofs.Alike.{on_ok_refused}
 use Rattle.ygg_oblige.proofs.Chains.{left_from}
 use Rattle.ygg_oblige.proofs.terms.recovers_again.Goals as goal
 
@@ -57,3 +58,6 @@ returns-clause-id g c =
 pub returns-clause-grows : goal.returns-clause-grows
 returns-clause-grows g c =
     extends_both c.args.bank.now c.recovery_cut.new.bank c.again_after.new.bank c.recovery_cut.ensures.grows c.again_after.ensures.grows
+
+pub returns-in_err-left-clause-nodes : goal.returns-in_err-left-clause-nodes
+returns-in_err-left-clause-nodes g c = on_ok_refused c.from_residual.result _ c.from_residual.ensures.0
