@@ -1,4 +1,4 @@
-use Rattle.std.proofs.Common.{◌≡◌, List, ℕ, Option, subst}
+use Rattle.std.proofs.Common.{List, ℕ, subst}
 use Rattle.ygg_base.specs.Outside.{Rose}
 use Rattle.ygg_yard.specs.ygg_meaning.Claims.{claims_of}
 use Rattle.ygg_yard.proofs.of_ygg_meaning_laws.Derived.{derivable_derived}
