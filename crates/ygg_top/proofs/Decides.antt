@@ -32,7 +32,8 @@ use Rattle.ygg_top.specs.ygg_top_command.Words.{IsBudget}
 use Rattle.ygg_top.specs.Deciding.{Decides, DecidesStored, DecidesNamed, DecidesWithin, IsDecided, IsDecision, IsThirdBudgetless, status_found}
 use Rattle.ygg_top.specs.Findings.{IsFound, IsKept, IsRefutingBy, IsZeroAt}
 use Rattle.ygg_top.specs.Printed.{IsNamed}
-use Rattle.ygg_top.specs.Verdict.{Verdict, Holds, Fails, Spent, IsTrue, IsViolation, IsRefutation, first_refuted, lines_of, refutation, status_by, any_failed, any_spent}
+use Rattle.ygg_top.specs.Verdict.{Verdict, Holds, Fails, Spent, IsTrue, IsViolation, IsRefutation, first_refuted, lines_of, refutation, status_by}
+use Rattle.ygg_top.specs.Verdict.{any_failed, any_spent}
 use Rattle.ygg_top.proofs.Judging.{names_of}
 use Rattle.ygg_top.proofs.Placed.{IsAt, is_at}
 use Rattle.ygg_top.proofs.Reporting.{refutes, same_claim, violating}

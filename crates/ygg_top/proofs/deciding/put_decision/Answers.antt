@@ -49,5 +49,6 @@ returns-in-Ok-decided-clause-told g c =
     let before = g.K.Sink.taken c.args.sink.now in
     let now = g.K.Sink.taken c.put_all.new.sink in
     let SinkRose = Rose (g.K.Sink.faults c.args.sink.now) (g.K.Sink.faults c.put_all.new.sink) in
-    put_told (IsDecision kinds f budget name) NoFront before now ⊥ SinkRose c.put_all.result status text (decision_ends kinds f budget name status text does) does
+    put_told (IsDecision kinds f budget name) NoFront before now ⊥ SinkRose c.put_all.result status text
+    (decision_ends kinds f budget name status text does) does
     (subst (λ (bytes : List ℕ). IsPutSo before now bytes status SinkRose c.put_all.result) c.as_slice-in-Ok-decided.ensures c.put_all.ensures.told)
