@@ -1,8 +1,7 @@
 -- From what was found of one obligation to what `decide` does.
-use Rattle.std.proofs.Common.{◌≡◌, ◌<◌, ℕ, Bool, true, false, if◌then◌else◌, List, [], ◌∷◌, ◌++◌, Option, Some, None, inl, inr, refl, sym, ap, ◌∙◌, subst}
+use Rattle.std.proofs.Common.{◌≡◌, ℕ, Bool, true, false, if◌then◌else◌, List, [], ◌∷◌, ◌++◌, Option, Some, None, inl, inr, refl, sym, ap, ◌∙◌, subst}
 use Rattle.std.proofs.lemmas.List.{append-nil}
-use Rattle.std.specs.Prelude.{length, MatchOption, slice_get}
-use Rattle.std.proofs.lemmas.Option.{slice_get_within}
+use Rattle.std.specs.Prelude.{MatchOption, slice_get}
 use Rattle.ygg_base.specs.declared.failure.Refusal.{Refusal}
 use Rattle.ygg_base.specs.declared.lists.Held.{Held}
 use Rattle.ygg_base.specs.declared.reason.Reason.TheVariants as reason
@@ -13,7 +12,6 @@ use Rattle.ygg_syntax.specs.declared.tree.File.{File}
 use Rattle.ygg_oblige_reading.specs.ygg_rules.declared.rule.RuleKind.{RuleKind}
 use Rattle.ygg_yard.specs.ygg_meaning.Claims.{Claim, claims_of}
 use Rattle.ygg_certify.specs.ygg_bank.Nodes.{IsBank}
-use Rattle.ygg_certify.specs.ygg_bank.Values.{InputsFit, inputs_of}
 use Rattle.ygg_certify.specs.ygg_bank.declared.env.Given.{Given}
 use Rattle.ygg_certify.specs.ygg_bank.declared.node.Id.{Id}
 use Rattle.ygg_certify.specs.ygg_bank.declared.node.Node.{Node}
@@ -32,9 +30,10 @@ use Rattle.ygg_top.specs.ygg_top_command.Refusing.{RefusesFile}
 use Rattle.ygg_top.specs.ygg_top_command.Reports.{IsDoneWith, MayStop}
 use Rattle.ygg_top.specs.ygg_top_command.Words.{IsBudget}
 use Rattle.ygg_top.specs.Deciding.{Decides, DecidesStored, DecidesNamed, DecidesWithin, IsDecided, IsDecision, IsThirdBudgetless, status_found}
-use Rattle.ygg_top.specs.Findings.{FitsTerms, IsFound, IsKept, IsRefutingBy, IsZeroAt}
+use Rattle.ygg_top.specs.Findings.{IsFound, IsKept, IsRefutingBy, IsZeroAt}
 use Rattle.ygg_top.specs.Printed.{IsNamed}
-use Rattle.ygg_top.specs.Verdict.{Verdict, Holds, Fails, Spent, IsTrue, IsViolation, IsRefutation, first_refuted, lines_of, refutation, status_by, any_failed, any_spent}
+use Rattle.ygg_top.specs.Verdict.{Verdict, Holds, Fails, Spent, IsTrue, IsViolation, IsRefutation, first_refuted, lines_of, refutation, status_by}
+use Rattle.ygg_top.specs.Verdict.{any_failed, any_spent}
 use Rattle.ygg_top.proofs.Judging.{names_of}
 use Rattle.ygg_top.proofs.Placed.{IsAt, is_at}
 use Rattle.ygg_top.proofs.Reporting.{refutes, same_claim, violating}
@@ -137,21 +136,6 @@ pub decision_ends : (kinds : List RuleKind) (f : File) (budget : ℕ) (name : Li
     IsDecision kinds f budget name status text → IsDoneWith status
 decision_ends kinds f budget name status text d =
     subst IsDoneWith (sym d.status_is) (ended (any_failed (d.verdict ∷ [])) (any_spent (d.verdict ∷ [])))
-
--- the environment that is kept gives each input of the file's terms a word of its width
-pub env_fits : (kinds : List RuleKind) (f : File) (nodes : List Node) (term : Id) (found : report.Verdict) (env : List Given) → IsBank nodes →
-    nodes ≡ (file_made kinds f []).nodes → IsKept nodes term found (Some env) → FitsTerms kinds f (inputs_of env)
-env_fits kinds f nodes term reports.Fails env bank same kept = record {
-  bank = subst IsBank same bank;
-  numbers = subst (λ (ns : List Node). InputsFit (inputs_of env) ns) same kept.numbers;
-}
-env_fits kinds f nodes term reports.Holds env bank same kept = absurd (cc kept)
-env_fits kinds f nodes term (reports.Spent count) env bank same kept = absurd (cc kept)
-
--- the obligation at a place is one of the file's
-pub placed_there : (f : File) (all : List Obligation) (place : ℕ) (o : Obligation) → length all ≡ length (claims_of f) → slice_get all place ≡ Some o →
-    place < length (claims_of f)
-placed_there f all place o each there = subst (λ n. place < n) each (slice_get_within all place o there)
 
 -- a name that none has
 pub unnamed : (kinds : List RuleKind) (f : File) (budget : ℕ) (name : List ℕ) (at : Refusal) → (IsNamed f name → ⊥) →

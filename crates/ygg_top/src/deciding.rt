@@ -20,9 +20,7 @@ use ygg_base::{Library, NoMemory, Reason, Sink, Status, Text};
 use ygg_certify::Bank;
 use ygg_oblige_reading::{Book, Obligation, obligations};
 use ygg_sched_names::{file_schedules, one_ending, printed_shows};
-use ygg_top_command::{
-    CommandStop, Verdict, close, end, layer_file, line, number_up_to, put_all,
-};
+use ygg_top_command::{CommandStop, Verdict, close, end, layer_file, line, number_up_to, put_all};
 use ygg_top_status::status_by;
 use ygg_type::Typed;
 use ygg_yard::{refines_by_list, typed_histories};

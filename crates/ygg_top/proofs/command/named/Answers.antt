@@ -143,9 +143,9 @@ returns-in-len4-clause-told g c =
     (three_told (g.B.Book.kinds c.args.rules.now) (g.L.Library.files c.args.library.now) (g.K.Sink.taken c.args.sink.now)
     (g.K.Sink.taken c.with_three.new.sink) (Rose (g.L.Library.faults c.args.library.now) (g.L.Library.faults c.with_three.new.library))
     (Rose (g.K.Sink.faults c.args.sink.now) (g.K.Sink.faults c.with_three.new.sink)) c.with_three.result c.args.words.now
-    c.command-item-in-len4.result c.first-item-in-len4.result c.second-item-in-len4.result c.third-item.result c.as_slice-in-len4.result.now
-    c.of-command-in-len4.result c.in-len4.len_at_least c.in-len4.len_below c.command-item-in-len4.is c.first-item-in-len4.is c.second-item-in-len4.is
-    c.third-item.is c.as_slice-in-len4.ensures c.of-command-in-len4.ensures c.with_three.ensures.told)
+    c.command-item-then-words-lt5.result c.first-item-then-words-lt5.result c.second-item-then-words-lt5.result c.third-item.result
+    c.as_slice-in-len4.result.now c.of-command-in-len4.result c.in-len4.len_at_least c.in-len4.len_below c.command-item-then-words-lt5.is
+    c.first-item-then-words-lt5.is c.second-item-then-words-lt5.is c.third-item.is c.as_slice-in-len4.ensures c.of-command-in-len4.ensures c.with_three.ensures.told)
 
 pub returns-in-len4-clause-leaves : goal.returns-in-len4-clause-leaves
 returns-in-len4-clause-leaves g c =
