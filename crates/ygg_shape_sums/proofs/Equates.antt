@@ -29,7 +29,7 @@ use Rattle.ygg_shape_sums.proofs.Splits.{split_digit}
 use Rattle.ygg_shape_sums.proofs.Fit.{two_fit, parts_wider, facts_wider, facts_more}
 use Rattle.ygg_shape_sums.proofs.Keeps.{vanishes_within_grows, compared_words_grows, equated_words_grows}
 use Rattle.ygg_shape_sums.proofs.Modulo.{Like, like, like_both, like_add, less_and, sides_equal}
-use Rattle.ygg_shape_sums.proofs.Sides.{vanishes_is}
+use Rattle.ygg_shape_sums.proofs.Remains.{vanishes_left_is}
 use Rattle.ygg_shape_sums.proofs.Reduces.{sum_fits, reduced_sum_is}
 use Rattle.ygg_shape_sums.proofs.Worth.{bits, worth, FactsHold}
 use Rattle.ygg_shape_sums.specs.Cancels.{has_product, cancels_within, cancels}
@@ -75,7 +75,7 @@ module _ (inputs : Inputs) (v : Values) (w : ℕ) (wide : IsWidth w) (kinds : Li
       FactsFit nodes facts → PartsFit nodes w s.parts → ((t : Id) → n ≡ Some t → HasWidth nodes t 1) →
       Fits inputs v (split_as kinds w next left facts s n nodes).nodes → FoundIs facts s (split_as kinds w next left facts s n nodes)
   split_as_is next left facts s None nodes good grow f p d h =
-      let m = vanishes_is inputs v w wide kinds s nodes p h in record { has = m.wide; is = λ k. m.is }
+      let m = vanishes_left_is inputs v w wide kinds facts s nodes p h in record { has = m.has; is = m.is }
   split_as_is next left facts s (Some t) nodes good grow f p d h =
       let yes_facts = facts ++ fact t true ∷ [] in
       let no_facts = facts ++ fact t false ∷ [] in
@@ -110,7 +110,7 @@ module _ (inputs : Inputs) (v : Values) (w : ℕ) (wide : IsWidth w) (kinds : Li
   vanishes_within_is : (depth : ℕ) → IsGood (vanishes_within kinds w depth)
   unfolding vanishes_within
   vanishes_within_is zero left facts s nodes f p h =
-      let m = vanishes_is inputs v w wide kinds s nodes p h in record { has = m.wide; is = λ k. m.is }
+      let m = vanishes_left_is inputs v w wide kinds facts s nodes p h in record { has = m.has; is = m.is }
   vanishes_within_is (suc depth) left facts s nodes f p h =
       let g = reduced_sum nodes w facts s in
       let n = split_of nodes w left facts g.parts in

@@ -1,5 +1,5 @@
 -- What holds of nodes, and stays as nodes other than inputs are made, holds after words are equated.
-use Rattle.std.proofs.Common.{ℕ, zero, suc, Bool, true, false, ◌==◌, ◌-◌, ◌++◌, ◌∷◌, if◌then◌else◌, Option, Some, None, List, []}
+use Rattle.std.proofs.Common.{ℕ, zero, suc, Bool, true, false, ◌==◌, ◌-◌, ◌%◌, ◌^◌, ◌++◌, ◌∷◌, if◌then◌else◌, Option, Some, None, List, []}
 use Rattle.ygg_value.specs.Words.{word}
 use Rattle.ygg_value.specs.declared.operation.Op.TheVariants.{Add, Mul}
 use Rattle.ygg_shape_words.specs.ygg_rules.declared.rule.RuleKind.{RuleKind}
@@ -12,14 +12,18 @@ use Rattle.ygg_shape_words.specs.ygg_bank.declared.node.Node.{Node}
 use Rattle.ygg_shape_words.specs.ygg_bank.declared.node.Node.TheVariants.{Const, Bin}
 use Rattle.ygg_shape_words.proofs.Keeps.{Stays, grows_stays, picked_keeps, same_words_keeps}
 use Rattle.ygg_shape_words.specs.Same.{same_words}
-use Rattle.ygg_shape_sums.specs.Parts.{Sum}
+use Rattle.ygg_shape_sums.specs.Multiplies.{expanded}
+use Rattle.ygg_shape_sums.specs.Parts.{Sum, empty}
+use Rattle.ygg_shape_sums.specs.Products.{Product}
+use Rattle.ygg_shape_sums.specs.Remains.{times_all, with_factors, with_term, with_terms, remains_of, remains, vanishes_left}
 use Rattle.ygg_shape_sums.specs.Readings.{fact}
 use Rattle.ygg_shape_sums.specs.Splits.{split_of}
-use Rattle.ygg_shape_sums.specs.Reduces.{reduced_sum}
+use Rattle.ygg_shape_sums.specs.Reduces.{any_product, products_of, reduced_sum}
 use Rattle.ygg_shape_sums.specs.Sides.{share, more, all_more, side, vanishes}
 use Rattle.ygg_shape_sums.specs.Cancels.{cancels}
 use Rattle.ygg_shape_sums.specs.Equates.{Step, split_as, vanishes_within, difference, are_sums, compared_words, equated_words}
 use Rattle.ygg_shape_sums.specs.declared.equating.TheConstants.{EQUATE_LIMIT}
+use Rattle.ygg_shape_sums.specs.declared.multiplying.TheConstants.{MULTIPLY_LIMIT}
 use Rattle.ygg_shape_sums.specs.declared.parts.Summand.{Summand}
 use Rattle.ygg_shape_sums.specs.declared.reading.Fact.{Fact}
 
@@ -62,12 +66,43 @@ module _ (kinds : List RuleKind) (P : List Node → Type 0) (stays : Stays kinds
       let two = side kinds w true s one.nodes in
       same_words_keeps kinds P stays one.value two.value two.nodes (side_keeps w true s one.nodes (side_keeps w false s nodes p))
 
+  times_all_keeps : (a : Id) (bs : List Id) (nodes : List Node) → P nodes → P (times_all kinds a bs nodes).nodes
+  times_all_keeps a [] nodes p = p
+  times_all_keeps a (b ∷ bs) nodes p =
+      let m = made kinds (Bin Mul a b) nodes in times_all_keeps m.value bs m.nodes (stays (Bin Mul a b) nodes tt p)
+
+  with_factors_keeps : (n : ℕ) (fs : List Id) (s : Sum) (nodes : List Node) → P nodes → P (with_factors kinds n fs s nodes).nodes
+  with_factors_keeps n [] s nodes p = p
+  with_factors_keeps n (a ∷ fs) s nodes p = times_all_keeps a fs nodes p
+
+  with_term_keeps : (q : Product) (s : Sum) (c : Bool) (nodes : List Node) → P nodes →
+      (let o : Make Sum = if c then pure s else with_factors kinds q.times q.factors s in P (o nodes).nodes)
+  with_term_keeps q s true nodes p = p
+  with_term_keeps q s false nodes p = with_factors_keeps q.times q.factors s nodes p
+
+  with_terms_keeps : (w : ℕ) (qs : List Product) (s : Sum) (nodes : List Node) → P nodes → P (with_terms kinds w qs s nodes).nodes
+  with_terms_keeps w [] s nodes p = p
+  with_terms_keeps w (q ∷ qs) s nodes p =
+      let o = with_term kinds w q s nodes in with_terms_keeps w qs o.value o.nodes (with_term_keeps q s (q.times % 2 ^ w == 0) nodes p)
+
+  remains_of_keeps : (w : ℕ) (s : Sum) (m : Option (List Product)) (nodes : List Node) → P nodes → P (remains_of kinds w s m nodes).nodes
+  remains_of_keeps w s None nodes p = p
+  remains_of_keeps w s (Some qs) nodes p = with_terms_keeps w qs (empty s.number) nodes p
+
+  remains_keeps : (w : ℕ) (facts : List Fact) (s : Sum) (nodes : List Node) → P nodes → P (remains kinds w facts s nodes).nodes
+  remains_keeps w facts s nodes p =
+      remains_of_keeps w s (if any_product nodes s.parts then expanded MULTIPLY_LIMIT nodes facts (products_of s.parts) [] else None) nodes p
+
+  vanishes_left_keeps : (w : ℕ) (facts : List Fact) (s : Sum) (nodes : List Node) → P nodes → P (vanishes_left kinds w facts s nodes).nodes
+  vanishes_left_keeps w facts s nodes p =
+      let o = remains kinds w facts s nodes in vanishes_keeps w o.value o.nodes (remains_keeps w facts s nodes p)
+
   abbrev StepKeeps : Step → Type 0
   StepKeeps next = (left : ℕ) (facts : List Fact) (s : Sum) (nodes : List Node) → P nodes → P (next left facts s nodes).nodes
 
   split_as_keeps : (w : ℕ) (next : Step) (left : ℕ) (facts : List Fact) (s : Sum) (t : Option Id) (nodes : List Node) → StepKeeps next → P nodes →
       P (split_as kinds w next left facts s t nodes).nodes
-  split_as_keeps w next left facts s None nodes g p = vanishes_keeps w s nodes p
+  split_as_keeps w next left facts s None nodes g p = vanishes_left_keeps w facts s nodes p
   split_as_keeps w next left facts s (Some t) nodes g p =
       let o = next (left - 1) (facts ++ fact t true ∷ []) s nodes in
       let k = o.value in
@@ -78,7 +113,7 @@ module _ (kinds : List RuleKind) (P : List Node → Type 0) (stays : Stays kinds
 
   vanishes_within_keeps : (w depth : ℕ) → StepKeeps (vanishes_within kinds w depth)
   unfolding vanishes_within
-  vanishes_within_keeps w zero left facts s nodes p = vanishes_keeps w s nodes p
+  vanishes_within_keeps w zero left facts s nodes p = vanishes_left_keeps w facts s nodes p
   vanishes_within_keeps w (suc depth) left facts s nodes p =
       let g = reduced_sum nodes w facts s in
       split_as_keeps w (vanishes_within kinds w depth) left facts g (split_of nodes w left facts g.parts) nodes (vanishes_within_keeps w depth) p
@@ -111,6 +146,21 @@ module _ (kinds : List RuleKind) where
 
   pub side_grows : (w : ℕ) (second : Bool) (s : Sum) (nodes : List Node) → Extends nodes (side kinds w second s nodes).nodes
   side_grows w second s nodes = side_keeps kinds (Extends nodes) (only nodes) w second s nodes (extends_self nodes)
+
+  pub times_all_grows : (a : Id) (bs : List Id) (nodes : List Node) → Extends nodes (times_all kinds a bs nodes).nodes
+  times_all_grows a bs nodes = times_all_keeps kinds (Extends nodes) (only nodes) a bs nodes (extends_self nodes)
+
+  pub with_terms_grows : (w : ℕ) (qs : List Product) (s : Sum) (nodes : List Node) → Extends nodes (with_terms kinds w qs s nodes).nodes
+  with_terms_grows w qs s nodes = with_terms_keeps kinds (Extends nodes) (only nodes) w qs s nodes (extends_self nodes)
+
+  pub with_term_grows : (w : ℕ) (q : Product) (s : Sum) (nodes : List Node) → Extends nodes (with_term kinds w q s nodes).nodes
+  with_term_grows w q s nodes = with_term_keeps kinds (Extends nodes) (only nodes) q s (q.times % 2 ^ w == 0) nodes (extends_self nodes)
+
+  pub remains_grows : (w : ℕ) (facts : List Fact) (s : Sum) (nodes : List Node) → Extends nodes (remains kinds w facts s nodes).nodes
+  remains_grows w facts s nodes = remains_keeps kinds (Extends nodes) (only nodes) w facts s nodes (extends_self nodes)
+
+  pub vanishes_grows : (w : ℕ) (s : Sum) (nodes : List Node) → Extends nodes (vanishes kinds w s nodes).nodes
+  vanishes_grows w s nodes = vanishes_keeps kinds (Extends nodes) (only nodes) w s nodes (extends_self nodes)
 
   pub vanishes_within_grows : (w depth left : ℕ) (facts : List Fact) (s : Sum) (nodes : List Node) →
       Extends nodes (vanishes_within kinds w depth left facts s nodes).nodes

@@ -1,5 +1,5 @@
 -- What was made step by step is a side, and is whether a sum is 0, split on a test or not.
-use Rattle.std.proofs.Common.{◌≡◌, ℕ, ◌-◌, Bool, true, false, Option, Some, None, List, [], ◌∷◌, ◌++◌, Result, Ok, Err, IfOk, OnOk, sym, ap, ◌∙◌, subst}
+use Rattle.std.proofs.Common.{◌≡◌, ℕ, ◌-◌, Bool, true, false, if◌then◌else◌, Option, Some, None, List, [], ◌∷◌, ◌++◌, Result, Ok, Err, IfOk, OnOk, sym, ap, ◌∙◌, subst}
 use Rattle.ygg_value.specs.Words.{word}
 use Rattle.ygg_value.specs.declared.operation.Op.TheVariants.{Add}
 use Rattle.ygg_shape_words.specs.ygg_rules.declared.rule.RuleKind.{RuleKind}
@@ -12,7 +12,12 @@ use Rattle.ygg_shape_words.specs.Picking.{picked}
 use Rattle.ygg_shape_words.specs.Same.{same_words}
 use Rattle.ygg_shape_sums.proofs.Steps.{goes}
 use Rattle.ygg_shape_sums.specs.Equates.{Step, Found, IsFound, found, split_as}
-use Rattle.ygg_shape_sums.specs.Parts.{Sum}
+use Rattle.ygg_shape_sums.specs.Multiplies.{expanded}
+use Rattle.ygg_shape_sums.specs.Parts.{Sum, empty}
+use Rattle.ygg_shape_sums.specs.Products.{Product}
+use Rattle.ygg_shape_sums.specs.Reduces.{any_product, products_of}
+use Rattle.ygg_shape_sums.specs.declared.multiplying.TheConstants.{MULTIPLY_LIMIT}
+use Rattle.ygg_shape_sums.specs.Remains.{with_terms, remains_of, vanishes_left}
 use Rattle.ygg_shape_sums.specs.Readings.{fact}
 use Rattle.ygg_shape_sums.specs.declared.reading.Fact.{Fact}
 use Rattle.ygg_shape_sums.specs.Sides.{share, all_more, side, vanishes}
@@ -49,8 +54,8 @@ module _ (kinds : List RuleKind) (w : ℕ) (s : Sum) (old : List Node) where
 
 module _ {E : Type 0} (kinds : List RuleKind) (w : ℕ) (next : Step) (facts : List Fact) (s : Sum) (o : Option Id) (old new : List Node) where
   -- no split
-  pub split_none : (left : ℕ) (r : Result Id E) → o ≡ None → OnOk r (new ≡ (vanishes kinds w s old).nodes) →
-      IfOk r (λ id. id ≡ (vanishes kinds w s old).value) →
+  pub split_none : (left : ℕ) (r : Result Id E) → o ≡ None → OnOk r (new ≡ (vanishes_left kinds w facts s old).nodes) →
+      IfOk r (λ id. id ≡ (vanishes_left kinds w facts s old).value) →
       IfOk r (λ id. IsFound (split_as kinds w next left facts s o) old new id left)
   split_none left (Ok id) n e f =
       subst (λ (z : Option Id). IsFound (split_as kinds w next left facts s z) old new id left) (sym n) (record { nodes = e; value = ap (found left) f })
@@ -73,3 +78,22 @@ module _ {E : Type 0} (kinds : List RuleKind) (w : ℕ) (next : Step) (facts : L
         nodes = e ∙ ap (λ (x : Out Found). x.nodes) whole;
         value = ap (found m) f ∙ ap (λ (x : Out Found). x.value) whole;
       })
+
+module _ (kinds : List RuleKind) (w : ℕ) (facts : List Fact) (s : Sum) (old : List Node) where
+  abbrev pub found_products : Option (List Product)
+  found_products = if any_product old s.parts then expanded MULTIPLY_LIMIT old facts (products_of s.parts) [] else None
+
+  abbrev with_found : Option (List Product) → Out Id
+  with_found m = and_make (remains_of kinds w s m) (vanishes kinds w) old
+
+  -- a sum that isn't multiplied out
+  pub left_none : found_products ≡ None → vanishes kinds w s old ≡ vanishes_left kinds w facts s old
+  left_none e = ap with_found (sym e)
+
+  -- and one that is
+  pub left_some : (qs : List Product) (n : ℕ) (sum : Sum) (new : List Node) → n ≡ s.number → found_products ≡ Some qs →
+      new ≡ (with_terms kinds w qs (empty n) old).nodes → sum ≡ (with_terms kinds w qs (empty n) old).value →
+      vanishes kinds w sum new ≡ vanishes_left kinds w facts s old
+  left_some qs n sum new i e p q =
+      goes (with_terms kinds w qs (empty n)) (vanishes kinds w) old new sum p q
+      ∙ ap (λ z. and_make (with_terms kinds w qs (empty z)) (vanishes kinds w) old) i ∙ ap with_found (sym e)

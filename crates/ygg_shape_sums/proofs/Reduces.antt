@@ -103,11 +103,11 @@ module _ (inputs : Inputs) (v : Values) (w : ℕ) (most : w ≤ 64) where
           joined a b = omega arith
 
   -- a sum that is found is worth this
-  abbrev WorthIs : Option Sum → ℕ → Type 0
+  abbrev pub WorthIs : Option Sum → ℕ → Type 0
   WorthIs None x = Unit {0}
   WorthIs (Some s) x = Like (2 ^ w) (worth inputs v s) x
 
-  few_is : (n : ℕ) (fs : List Id) (s : Sum) → WorthIs (with_few n fs s) (n * made_of inputs v fs + worth inputs v s)
+  pub few_is : (n : ℕ) (fs : List Id) (s : Sum) → WorthIs (with_few n fs s) (n * made_of inputs v fs + worth inputs v s)
   few_is n [] s =
       let m = 2 ^ w in
       let a = amount inputs v s.parts in
@@ -126,7 +126,7 @@ module _ (inputs : Inputs) (v : Values) (w : ℕ) (most : w ≤ 64) where
         once x = omega arith
   few_is n (a ∷ b ∷ fs) s = tt
 
-  one_is : (p : Product) (s : Sum) (c : Bool) → (p.times % 2 ^ w == 0) ≡ c →
+  pub one_is : (p : Product) (s : Sum) (c : Bool) → (p.times % 2 ^ w == 0) ≡ c →
       WorthIs (if c then Some s else with_few p.times p.factors s) (read_worth inputs v p + worth inputs v s)
   one_is p s true e =
       let m = 2 ^ w in
@@ -167,21 +167,28 @@ module _ (inputs : Inputs) (v : Values) (w : ℕ) (most : w ≤ 64) where
         turned p q r = omega arith
 
   module _ (nodes : List Node) (f : Fits inputs v nodes) where
-    from_is : (facts : List Fact) (s : Sum) (m : Option (List Product)) → FactsHold inputs v facts → PartsFit nodes w s.parts →
-        expanded MULTIPLY_LIMIT nodes facts (products_of s.parts) [] ≡ m → WorthIs (summed_from w s.number m) (worth inputs v s)
-    from_is facts s None k h e = tt
-    from_is facts s (Some qs) k h e =
+    -- products that were multiplied out are worth the sum that they come of
+    pub products_are : (facts : List Fact) (s : Sum) (qs : List Product) → FactsHold inputs v facts → PartsFit nodes w s.parts →
+        expanded MULTIPLY_LIMIT nodes facts (products_of s.parts) [] ≡ Some qs →
+        Like (2 ^ w) (all_read inputs v qs + worth inputs v (empty s.number)) (worth inputs v s)
+    products_are facts s qs k h e =
         let n = 2 ^ w in
         let x = all_worth inputs v (products_of s.parts) + 0 in
         let y = all_read inputs v qs in
         let l = expanded_is inputs v w most nodes f MULTIPLY_LIMIT facts (products_of s.parts) [] qs k (products_fit nodes w s.parts h) e in
-        same_worth (summed w qs (empty s.number)) (y + (s.number + 0)) (worth inputs v s)
-        (like_both n (y + (s.number + 0)) (x + (s.number + 0)) (worth inputs v s)
+        like_both n (y + (s.number + 0)) (x + (s.number + 0)) (worth inputs v s)
         (like_add n y x (s.number + 0) (s.number + 0) l (like n (s.number + 0) (s.number + 0) refl))
-        (like n (x + (s.number + 0)) (worth inputs v s) (ap (λ z. z + (s.number + 0)) (products_worth s.parts) ∙ last (amount inputs v s.parts) s.number)))
-        (summed_is qs (empty s.number)) where
-          last : (a b : ℕ) → a + (b + 0) ≡ b + a
-          last a b = omega arith
+        (like n (x + (s.number + 0)) (worth inputs v s) (ap (λ z. z + (s.number + 0)) (products_worth s.parts) ∙ last (amount inputs v s.parts) s.number))
+      where
+        last : (a b : ℕ) → a + (b + 0) ≡ b + a
+        last a b = omega arith
+
+    from_is : (facts : List Fact) (s : Sum) (m : Option (List Product)) → FactsHold inputs v facts → PartsFit nodes w s.parts →
+        expanded MULTIPLY_LIMIT nodes facts (products_of s.parts) [] ≡ m → WorthIs (summed_from w s.number m) (worth inputs v s)
+    from_is facts s None k h e = tt
+    from_is facts s (Some qs) k h e =
+        same_worth (summed w qs (empty s.number)) (all_read inputs v qs + (s.number + 0)) (worth inputs v s) (products_are facts s qs k h e)
+        (summed_is qs (empty s.number))
 
     either_is : (m : Option Sum) (s : Sum) (c : Bool) → WorthIs m (worth inputs v s) →
         Like (2 ^ w) (worth inputs v (if c then or_else m s else s)) (worth inputs v s)

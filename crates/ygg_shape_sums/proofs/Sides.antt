@@ -108,7 +108,7 @@ module _ (inputs : Inputs) (v : Values) (w : ℕ) (wide : IsWidth w) (kinds : Li
             (like_own (2 ^ w) x);
       }
 
-  mul_is : (a b : Id) (nodes : List Node) → HasWidth nodes a w → HasWidth nodes b w → Fits inputs v (made kinds (Bin Mul a b) nodes).nodes →
+  pub mul_is : (a b : Id) (nodes : List Node) → HasWidth nodes a w → HasWidth nodes b w → Fits inputs v (made kinds (Bin Mul a b) nodes).nodes →
       Gives (made kinds (Bin Mul a b) nodes).nodes (bits inputs v a * bits inputs v b) (made kinds (Bin Mul a b) nodes).value
   mul_is a b nodes p q h =
       let o = made kinds (Bin Mul a b) nodes in
@@ -124,7 +124,7 @@ module _ (inputs : Inputs) (v : Values) (w : ℕ) (wide : IsWidth w) (kinds : Li
       }
 
   -- a word that is worth as much
-  as_much : (nodes : List Node) (x y : ℕ) (a : Id) → Like (2 ^ w) x y → Gives nodes x a → Gives nodes y a
+  pub as_much : (nodes : List Node) (x y : ℕ) (a : Id) → Like (2 ^ w) x y → Gives nodes x a → Gives nodes y a
   as_much nodes x y a l g = record { has = g.has; is = like_both (2 ^ w) (bits inputs v a) x y g.is l }
 
   many_is : (n : ℕ) (x a : Id) (nodes : List Node) → n < 2 ^ w → HasWidth nodes x w → HasWidth nodes a w →

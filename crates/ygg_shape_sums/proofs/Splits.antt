@@ -1,5 +1,5 @@
 -- The test on which a sum is split is a single digit.
-use Rattle.std.proofs.Common.{◌≡◌, ◌==◌, ℕ, Bool, true, false, if◌then◌else◌, Option, Some, None, List, [], ◌∷◌, All, length, refl, sym, ap, ◌∙◌, subst}
+use Rattle.std.proofs.Common.{◌≡◌, ◌==◌, ℕ, Bool, true, false, if◌then◌else◌, Option, Some, None, List, [], ◌∷◌, All, length, refl, subst}
 use Rattle.std.specs.Prelude.{nat_lt}
 use Rattle.std.proofs.lemmas.List.Elements.{All-head, All-tail, All-nil}
 use Rattle.ygg_shape_words.specs.ygg_bank.Nodes.{HasWidth, InOrder}
@@ -31,7 +31,7 @@ module _ (nodes : List Node) (w : ℕ) where
       (all_several_digit ps o (All-tail (ProductFits nodes w) p ps h))
 
   -- what was multiplied out has the width
-  parts_expanded_fit : (facts : List Fact) (ps : List Summand) (qs : List Product) → InOrder [] nodes → PartsFit nodes w ps →
+  pub parts_expanded_fit : (facts : List Fact) (ps : List Summand) (qs : List Product) → InOrder [] nodes → PartsFit nodes w ps →
       expanded MULTIPLY_LIMIT nodes facts (products_of ps) [] ≡ Some qs → All (ProductFits nodes w) qs
   parts_expanded_fit facts ps qs o h e =
       expanded_fit nodes w MULTIPLY_LIMIT facts (products_of ps) [] qs o (products_fit nodes w ps h) (All-nil (ProductFits nodes w)) e

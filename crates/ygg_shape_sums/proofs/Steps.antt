@@ -7,14 +7,19 @@ use Rattle.std.specs.Prelude.{nat_lt}
 use Rattle.std.proofs.lemmas.List.{drop_more, drop_all, drop-append-le, drop-set-lt, take_more, take_more_set, take-append-drop, take_all}
 use Rattle.ygg_shape_words.specs.ygg_rules.declared.rule.RuleKind.{RuleKind}
 use Rattle.ygg_shape_words.specs.ygg_bank.Makes.{Make, Out, and_make}
+use Rattle.ygg_shape_words.specs.ygg_bank.Making.{made}
 use Rattle.ygg_shape_words.specs.ygg_bank.declared.node.Id.{Id}
 use Rattle.ygg_shape_words.specs.ygg_bank.declared.node.Node.{Node}
+use Rattle.ygg_shape_words.specs.ygg_bank.declared.node.Node.TheVariants.{Bin}
+use Rattle.ygg_value.specs.declared.operation.Op.TheVariants.{Mul}
 use Rattle.ygg_shape_sums.specs.Parts.{Sum, part, merged}
 use Rattle.ygg_shape_sums.specs.Readings.{read}
 use Rattle.ygg_shape_sums.specs.Gathers.{parts_of, counted, with_all, gathered, found_within}
 use Rattle.ygg_shape_sums.specs.Reduces.{reduced_sum}
 use Rattle.ygg_shape_sums.specs.Splits.{split_of}
-use Rattle.ygg_shape_sums.specs.Sides.{share, more, all_more, vanishes}
+use Rattle.ygg_shape_sums.specs.Products.{Product}
+use Rattle.ygg_shape_sums.specs.Remains.{times_all, with_term, with_terms, vanishes_left}
+use Rattle.ygg_shape_sums.specs.Sides.{share, more, all_more}
 use Rattle.ygg_shape_sums.specs.Equates.{Found, IsFound, found, split_as, vanishes_within}
 use Rattle.ygg_shape_sums.specs.declared.parts.Summand.{Summand}
 use Rattle.ygg_shape_sums.specs.declared.reading.Fact.{Fact}
@@ -117,7 +122,7 @@ module _ (kinds : List RuleKind) where
   out a nodes = record { value = a; nodes = nodes }
 
   pub within_zero : {E : Type 0} (w depth left : ℕ) (facts : List Fact) (s : Sum) (old new : List Node) (r : Result Id E) → depth ≡ 0 →
-      OnOk r (new ≡ (vanishes kinds w s old).nodes) → IfOk r (λ id. id ≡ (vanishes kinds w s old).value) →
+      OnOk r (new ≡ (vanishes_left kinds w facts s old).nodes) → IfOk r (λ id. id ≡ (vanishes_left kinds w facts s old).value) →
       IfOk r (λ id. IsFound (vanishes_within kinds w depth left facts s) old new id left)
   unfolding vanishes_within
   within_zero w zero left facts s old new (Ok id) d e g = record { nodes = e; value = ap (found left) g }
@@ -205,3 +210,31 @@ merged_end p ps i l h = h ∙ ap (λ z. take i ps ++ merged p z) (drop_all i ps 
 -- all items from a place on
 pub rest_all : {X : Type 0} (xs : List X) (n : ℕ) → take (length xs - n) (drop n xs) ≡ drop n xs
 rest_all xs n = take_all (length xs - n) (drop n xs) (let e : length (drop n xs) ≡ length xs - n = length-drop n xs in omega arith)
+
+-- what a product of factors has made so far, and what the rest will make
+pub record TimesAll (kinds : List RuleKind) (bs : List Id) (first : Id) (old : List Node) (i : ℕ) (so_far : Id) (now : List Node) : Type 0 where
+  pub value : (times_all kinds so_far (drop i bs) now).value ≡ (times_all kinds first bs old).value
+  pub nodes : (times_all kinds so_far (drop i bs) now).nodes ≡ (times_all kinds first bs old).nodes
+
+pub times_all_goes : (kinds : List RuleKind) (bs : List Id) (first : Id) (old : List Node) (i : ℕ) (so_far : Id) (now : List Node) (b d : Id) (a : Id)
+    (next : List Node) → i < length bs → b ≡ get_or bs i d → next ≡ (made kinds (Bin Mul so_far b) now).nodes →
+    a ≡ (made kinds (Bin Mul so_far b) now).value → TimesAll kinds bs first old i so_far now → TimesAll kinds bs first old (i + 1) a next
+times_all_goes kinds bs first old i so_far now b d a next l e g h r =
+    let rest : Id → Make Id = λ m. times_all kinds m (drop (i + 1) bs) in
+    let whole : rest a next ≡ times_all kinds so_far (drop i bs) now =
+    goes (made kinds (Bin Mul so_far b)) rest now next a g h ∙ ap (λ z. times_all kinds so_far z now) (sym (rest_is bs i b d l e)) in
+    record { value = ap (λ (o : Out Id). o.value) whole ∙ r.value; nodes = ap (λ (o : Out Id). o.nodes) whole ∙ r.nodes }
+
+-- what the terms of products have made so far, and what the rest will make
+pub record WithTerms (kinds : List RuleKind) (w : ℕ) (ps : List Product) (first : Sum) (old : List Node) (i : ℕ) (so_far : Sum) (now : List Node) : Type 0 where
+  pub value : (with_terms kinds w (drop i ps) so_far now).value ≡ (with_terms kinds w ps first old).value
+  pub nodes : (with_terms kinds w (drop i ps) so_far now).nodes ≡ (with_terms kinds w ps first old).nodes
+
+pub with_terms_goes : (kinds : List RuleKind) (w : ℕ) (ps : List Product) (first : Sum) (old : List Node) (i : ℕ) (so_far : Sum) (now : List Node)
+    (p d : Product) (s : Sum) (next : List Node) → i < length ps → p ≡ get_or ps i d → next ≡ (with_term kinds w p so_far now).nodes →
+    s ≡ (with_term kinds w p so_far now).value → WithTerms kinds w ps first old i so_far now → WithTerms kinds w ps first old (i + 1) s next
+with_terms_goes kinds w ps first old i so_far now p d s next l e g h r =
+    let rest = with_terms kinds w (drop (i + 1) ps) in
+    let whole : rest s next ≡ with_terms kinds w (drop i ps) so_far now =
+    goes (with_term kinds w p so_far) rest now next s g h ∙ ap (λ z. with_terms kinds w z so_far now) (sym (rest_is ps i p d l e)) in
+    record { value = ap (λ (o : Out Sum). o.value) whole ∙ r.value; nodes = ap (λ (o : Out Sum). o.nodes) whole ∙ r.nodes }

@@ -13,7 +13,7 @@ use Rattle.ygg_shape_words.specs.Same.{same_words}
 use Rattle.ygg_shape_sums.specs.Parts.{Sum, part}
 use Rattle.ygg_shape_sums.specs.Readings.{fact}
 use Rattle.ygg_shape_sums.specs.Gathers.{gathered_sum, has_sum}
-use Rattle.ygg_shape_sums.specs.Sides.{vanishes}
+use Rattle.ygg_shape_sums.specs.Remains.{vanishes_left}
 use Rattle.ygg_shape_sums.specs.Cancels.{cancels}
 use Rattle.ygg_shape_sums.specs.Reduces.{reduced_sum, loses_products}
 use Rattle.ygg_shape_sums.specs.Splits.{split_of}
@@ -36,7 +36,7 @@ Step = ℕ → List Fact → Sum → Make Found
 
 -- whether a sum is 0, split on a test or not, where the halves are compared by the step
 abbrev pub split_as : List RuleKind → ℕ → Step → ℕ → List Fact → Sum → Option Id → Make Found
-split_as kinds w next left facts s None = and_make (vanishes kinds w s) (λ r. pure (found left r))
+split_as kinds w next left facts s None = and_make (vanishes_left kinds w facts s) (λ r. pure (found left r))
 split_as kinds w next left facts s (Some t) =
     and_make (next (left - 1) (facts ++ fact t true ∷ []) s) (λ one. and_make (next one.left (facts ++ fact t false ∷ []) s)
     (λ two. and_make (picked kinds t one.term two.term) (λ r. pure (found two.left r))))

@@ -23,5 +23,6 @@ pub mod Multiplies
 pub mod Cancels
 pub mod Reduces
 pub mod Splits
+pub mod Remains
 pub mod Equates
 pub mod Plain

@@ -18,7 +18,7 @@ use crate::parts::{Summand, Total};
 use crate::plain::are_plain;
 use crate::reading::{Fact, LESS_ONE, with};
 use crate::reducing::{loses_products, reduce};
-use crate::siding::vanishes;
+use crate::remaining::vanishes_left;
 use crate::splitting::split_of;
 use ygg_shape_words::{Bank, Book, Id, NoMemory, Node, pick, same};
 use ygg_value::Word;
@@ -47,7 +47,7 @@ fn vanishes_within<B: Book>(
     ensures bank { IsBank bank.new }
 {
     if depth == 0 {
-        return vanishes(bank, book, width, total);
+        return vanishes_left(bank, book, width, facts, total);
     }
     let sum = reduce(bank, width, facts, total)?;
     vanishes_split(bank, book, width, depth - 1, left, facts, &sum)
@@ -75,7 +75,7 @@ fn vanishes_split<B: Book>(
     ensures bank { IsBank bank.new }
 {
     match split_of(bank, width, *left, facts, sum.parts())? {
-        None => vanishes(bank, book, width, sum),
+        None => vanishes_left(bank, book, width, facts, sum),
         Some(test) => {
             *left = left.saturating_sub(1);
             let yes = vanishes_where(bank, book, width, depth, left, facts, test, true, sum)?;

@@ -11,6 +11,7 @@ mod plain;
 pub mod products;
 pub mod reading;
 pub mod reducing;
+pub mod remaining;
 pub mod siding;
 pub mod splitting;
 

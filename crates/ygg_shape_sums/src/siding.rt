@@ -64,7 +64,7 @@ fn sum<B: Book>(bank: &mut Bank, book: &B, width: u8, a: Id, b: Id) -> Result<Id
 }
 
 /// The product of two words.
-fn product<B: Book>(bank: &mut Bank, book: &B, width: u8, a: Id, b: Id) -> Result<Id, NoMemory>
+pub fn product<B: Book>(bank: &mut Bank, book: &B, width: u8, a: Id, b: Id) -> Result<Id, NoMemory>
     requires one { HasWidth bank.old a width }
     requires two { HasWidth bank.old b width }
     ensures nodes { OnOk result (bank.new ≡ (made (B.kinds book.now) (node.Bin op.Mul a b) bank.old).nodes) }

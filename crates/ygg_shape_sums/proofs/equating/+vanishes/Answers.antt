@@ -20,7 +20,7 @@ use Rattle.ygg_shape_sums.proofs.equating.+vanishes.Goals as goal
 pub vanishes_within-returns-then-depth-eq0-clause-made : goal.vanishes_within-returns-then-depth-eq0-clause-made
 vanishes_within-returns-then-depth-eq0-clause-made g t c =
     within_zero (g.B.Book.kinds c.args.book.now) c.args.width c.args.depth c.args.left.now c.args.facts.now c.args.total.now c.args.bank.now
-    c.vanishes.new.bank c.vanishes.result c.if-depth-eq0.true c.vanishes.ensures.nodes c.vanishes.ensures.form
+    c.vanishes_left.new.bank c.vanishes_left.result c.if-depth-eq0.true c.vanishes_left.ensures.nodes c.vanishes_left.ensures.form
 
 pub vanishes_within-vanishes_split-requires : goal.vanishes_within-vanishes_split-requires
 vanishes_within-vanishes_split-requires g t c κs within =
@@ -113,11 +113,11 @@ vanishes_within-reduce-requires-clause-facts g t c = c.requires.facts
 pub vanishes_within-reduce-requires-clause-parts : goal.vanishes_within-reduce-requires-clause-parts
 vanishes_within-reduce-requires-clause-parts g t c = c.requires.parts
 
-pub vanishes_within-vanishes-requires-clause-parts : goal.vanishes_within-vanishes-requires-clause-parts
-vanishes_within-vanishes-requires-clause-parts g t c = c.requires.parts
+pub vanishes_within-vanishes_left-requires-clause-parts : goal.vanishes_within-vanishes_left-requires-clause-parts
+vanishes_within-vanishes_left-requires-clause-parts g t c = c.requires.parts
 
-pub vanishes_split-vanishes-requires-clause-parts : goal.vanishes_split-vanishes-requires-clause-parts
-vanishes_split-vanishes-requires-clause-parts g t c = c.requires.parts
+pub vanishes_split-vanishes_left-requires-clause-parts : goal.vanishes_split-vanishes_left-requires-clause-parts
+vanishes_split-vanishes_left-requires-clause-parts g t c = c.requires.parts
 
 pub vanishes_within-returns-in_err-sum-clause-made : goal.vanishes_within-returns-in_err-sum-clause-made
 vanishes_within-returns-in_err-sum-clause-made g t c = IfOk-from_err c.from_residual.result _ c.from_residual.ensures.0
@@ -181,13 +181,13 @@ pub vanishes_where-returns-in_err-more-clause-bank : goal.vanishes_where-returns
 vanishes_where-returns-in_err-more-clause-bank g t c = c.requires.bank
 
 pub vanishes_within-returns-then-depth-eq0-clause-width : goal.vanishes_within-returns-then-depth-eq0-clause-width
-vanishes_within-returns-then-depth-eq0-clause-width g t c = c.vanishes.ensures.width
+vanishes_within-returns-then-depth-eq0-clause-width g t c = c.vanishes_left.ensures.width
 
 pub vanishes_within-returns-then-depth-eq0-clause-grows : goal.vanishes_within-returns-then-depth-eq0-clause-grows
-vanishes_within-returns-then-depth-eq0-clause-grows g t c = c.vanishes.ensures.grows
+vanishes_within-returns-then-depth-eq0-clause-grows g t c = c.vanishes_left.ensures.grows
 
 pub vanishes_within-returns-then-depth-eq0-clause-bank : goal.vanishes_within-returns-then-depth-eq0-clause-bank
-vanishes_within-returns-then-depth-eq0-clause-bank g t c = c.vanishes.ensures.bank
+vanishes_within-returns-then-depth-eq0-clause-bank g t c = c.vanishes_left.ensures.bank
 
 pub vanishes_within-returns-clause-width : goal.vanishes_within-returns-clause-width
 vanishes_within-returns-clause-width g t c = c.vanishes_split.ensures.width
@@ -199,13 +199,13 @@ pub vanishes_within-returns-clause-bank : goal.vanishes_within-returns-clause-ba
 vanishes_within-returns-clause-bank g t c = c.vanishes_split.ensures.bank
 
 pub vanishes_split-returns-in-None-clause-width : goal.vanishes_split-returns-in-None-clause-width
-vanishes_split-returns-in-None-clause-width g t c = c.vanishes.ensures.width
+vanishes_split-returns-in-None-clause-width g t c = c.vanishes_left.ensures.width
 
 pub vanishes_split-returns-in-None-clause-grows : goal.vanishes_split-returns-in-None-clause-grows
-vanishes_split-returns-in-None-clause-grows g t c = c.vanishes.ensures.grows
+vanishes_split-returns-in-None-clause-grows g t c = c.vanishes_left.ensures.grows
 
 pub vanishes_split-returns-in-None-clause-bank : goal.vanishes_split-returns-in-None-clause-bank
-vanishes_split-returns-in-None-clause-bank g t c = c.vanishes.ensures.bank
+vanishes_split-returns-in-None-clause-bank g t c = c.vanishes_left.ensures.bank
 
 pub vanishes_split-returns-in_ok-no-in-Some-clause-bank : goal.vanishes_split-returns-in_ok-no-in-Some-clause-bank
 vanishes_split-returns-in_ok-no-in-Some-clause-bank g t c = c.pick.ensures.bank
@@ -223,9 +223,9 @@ pub vanishes_split-returns-in-None-clause-made : goal.vanishes_split-returns-in-
 vanishes_split-returns-in-None-clause-made g t c =
     split_none (g.B.Book.kinds c.args.book.now) c.args.width (vanishes_within (g.B.Book.kinds c.args.book.now) c.args.width c.args.depth) c.args.facts.now
     c.args.sum.now
-    (split_of c.args.bank.now c.args.width c.args.left.now c.args.facts.now (c.args.sum.now).parts) c.args.bank.now c.vanishes.new.bank c.args.left.now c.vanishes.result
+    (split_of c.args.bank.now c.args.width c.args.left.now c.args.facts.now (c.args.sum.now).parts) c.args.bank.now c.vanishes_left.new.bank c.args.left.now c.vanishes_left.result
     (sym (sym c.in-None.is ∙ c.in_ok-split_of.ensures ∙ ap (λ (ps : List Summand). split_of c.args.bank.now c.args.width c.args.left.now c.args.facts.now ps) c.parts.ensures))
-    c.vanishes.ensures.nodes c.vanishes.ensures.form
+    c.vanishes_left.ensures.nodes c.vanishes_left.ensures.form
 
 pub vanishes_split-returns-in_ok-no-in-Some-clause-made : goal.vanishes_split-returns-in_ok-no-in-Some-clause-made
 vanishes_split-returns-in_ok-no-in-Some-clause-made g t c =
