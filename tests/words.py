@@ -231,6 +231,14 @@ def spends(folder):
     """Budgets that are spent."""
     found = folder.asked("verify", "file", "1")
     yield "verify within 1", differs(found, 3, "", ["ygg: gave up on pair.", "after 1 learned clauses", "ygg verify file 10000000"])
+    found = folder.asked("verify", "file")
+    yield "verify within the usual budget", differs(found, 0, "holds pair.init\n", [])
+    (folder.path / "swapped").write_text(line(26, "    return pick(i, x, y);"))
+    found = folder.asked("verify", "swapped", "1")
+    what = ["ygg: gave up on pair.again (and 1 more) after 1 learned clauses; nothing is known about it", "ygg verify swapped 10000000"]
+    yield "verify within 1 of what fails too", differs(found, 1, "holds pair.init\n", what)
+    found = folder.asked("verify", "swapped")
+    yield "verify of what fails, within the usual budget", differs(found, 1, "holds pair.init\n", [])
     (folder.path / "cnf").write_text("p cnf 2 4\n1 2 0\n-1 2 0\n1 -2 0\n-1 -2 0\n")
     found = folder.asked("solve", "cnf", "1")
     yield "solve within 1", differs(found, 3, "undecided\n", ["ygg: gave up after 1 learned clauses", "ygg solve cnf 10000000"])

@@ -68,9 +68,6 @@ fn number_hint(number: u8) -> &'static str {
         34 => "was the file cut off? it ends with the line `end`",
         42 => "operations are named as in the file, and background steps LAYER.NAME",
         44 => "ygg play without this line shows the calls",
-        51 => "ygg format FILE IMAGE formats it",
-        52 => "it was formatted for another layer file",
-        53 => "it was changed by something else than ygg, or is damaged",
         _ => "",
     }
 }

@@ -4,7 +4,7 @@ use crate::fault::{call_fault, device_fault, output_fault};
 use crate::heard::Heard;
 use crate::refusal::{file_place, refusal_in, refusal_message};
 use crate::spent::{long_certificate, spent_message};
-use crate::words::word_at;
+use crate::words::{text_of, word_at};
 use std::alloc::{AllocError, Global};
 use std::io::Write;
 use std::{fs, str};
@@ -70,10 +70,7 @@ fn failed<W: Write>(
 ) -> Result<String, AllocError> {
     let mut out = format!(in alloc; "")?;
     if let Some(failure) = library.failed() {
-        let name = match library.asked() {
-            Some(name) => str::from_utf8(name.as_slice()).unwrap_or(""),
-            None => "",
-        };
+        let name = text_of(library.asked());
         out.push_str(call_fault(alloc, name, failure)?.as_str())?;
     }
     if let Some(failure) = device.failed() {
@@ -102,12 +99,15 @@ fn message<W: Write>(
         Status::Undecided => spent_message(alloc, words, heard.spent(), heard.spends()),
         Status::Fault => failed(alloc, words, library, device, heard.sink()),
         Status::NoMemory => format!(in alloc; "ygg: no memory was left\n"),
+        Status::Refuted if heard.spends() > 0 => {
+            spent_message(alloc, words, heard.spent(), heard.spends())
+        }
         Status::Done | Status::Refuted => format!(in alloc; ""),
     }
 }
 
 /// Tells a person on standard error what a command's last line and its status don't say: what a refusal means and where it is, what may help where a budget was
-/// spent, and which call on the system failed. Standard error that fails, and want of memory, leave it unsaid.
+/// spent, beside what fails too, and which call on the system failed. Standard error that fails, and want of memory, leave it unsaid.
 pub fn tell<W: Write>(
     rt: &HostRuntime,
     words: &[Text],
