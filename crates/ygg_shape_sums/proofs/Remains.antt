@@ -1,6 +1,6 @@
 -- What a sum is worth where products that are left are terms, and its words.
 use Rattle.std.proofs.Common.{◌≡◌, ◌==◌, ◌+◌, ◌*◌, ◌%◌, ◌^◌, ℕ, Bool, true, false, if◌then◌else◌, Option}
-use Rattle.std.proofs.Common.{Some, None, List, [], ◌∷◌, All, refl, sym, ap, ◌∙◌, arith}
+use Rattle.std.proofs.Common.{Some, None, List, [], ◌∷◌, All, refl, ap, ◌∙◌, arith}
 use Rattle.std.proofs.Math.Nat.{mul_assoc}
 use Rattle.std.proofs.lemmas.List.Elements.{All-head, All-tail, All-nil, All-weaker}
 use Rattle.ygg_value.specs.Words.{word, bit_of}
@@ -12,7 +12,7 @@ use Rattle.ygg_shape_words.specs.ygg_bank_proofs_Meaning.{fits_fewer}
 use Rattle.ygg_shape_words.specs.ygg_bank_proofs_Widths.{wider}
 use Rattle.ygg_shape_words.specs.ygg_bank.Makes.{Make, Out, pure}
 use Rattle.ygg_shape_words.specs.ygg_bank.Making.{made}
-use Rattle.ygg_shape_words.specs.ygg_bank.Nodes.{HasWidth, InOrder, Extends}
+use Rattle.ygg_shape_words.specs.ygg_bank.Nodes.{HasWidth, Extends}
 use Rattle.ygg_shape_words.specs.ygg_bank.Values.{Inputs, Values, Fits}
 use Rattle.ygg_shape_words.specs.ygg_bank.declared.node.Id.{Id}
 use Rattle.ygg_shape_words.specs.ygg_bank.declared.node.Node.{Node}

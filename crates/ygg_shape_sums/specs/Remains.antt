@@ -5,7 +5,6 @@ use Rattle.ygg_shape_words.specs.ygg_rules.declared.rule.RuleKind.{RuleKind}
 use Rattle.ygg_shape_words.specs.ygg_bank.Makes.{Make, pure, and_make}
 use Rattle.ygg_shape_words.specs.ygg_bank.Making.{made}
 use Rattle.ygg_shape_words.specs.ygg_bank.declared.node.Id.{Id}
-use Rattle.ygg_shape_words.specs.ygg_bank.declared.node.Node.{Node}
 use Rattle.ygg_shape_words.specs.ygg_bank.declared.node.Node.TheVariants.{Bin}
 use Rattle.ygg_shape_sums.specs.Multiplies.{expanded}
 use Rattle.ygg_shape_sums.specs.Parts.{Sum, part, empty, with_part, with_number}

@@ -1,4 +1,3 @@
-use Rattle.std.proofs.Common.{refl}
 use Rattle.ygg_shape_words.specs.ygg_bank_proofs_Widths.{extends_both}
 use Rattle.ygg_shape_sums.proofs.Factors.{product_at}
 use Rattle.ygg_shape_sums.proofs.Remains.{product_wider}
