@@ -1,5 +1,5 @@
 use Rattle.std.proofs.Common.{Some, refl, ap, ◌∙◌, ◌≡◌, OnOk, IfOk, List, subst}
-use Rattle.ygg_shape_words.specs.ygg_bank_proofs_Widths.{wider, width_is, extends_both}
+use Rattle.ygg_shape_words.specs.ygg_bank_proofs_Widths.{wider, width_is, stands, extends_both}
 use Rattle.ygg_shape_words.proofs.Fit.{alike, can_and}
 use Rattle.ygg_shape_cells.proofs.Wider.{rows_alike_wider}
 use Rattle.std.proofs.lemmas.Result.{IfOk-from_err}
@@ -27,6 +27,10 @@ write_row-requires-clause-test g c =
     c.in_ok-both.ensures.width ∙ ap (λ z. Some z) (width_is c.same.new.bank c.args.guard.test 1
     (wider c.args.bank.now c.same.new.bank c.args.guard.test 1
     (extends_both c.args.bank.now c.make.new.self c.same.new.bank c.make.ensures.grows c.same.ensures.grows) c.requires.test))
+
+pub write_row-requires-clause-met : goal.write_row-requires-clause-met
+write_row-requires-clause-met g c =
+    stands c.make-2.new.self c.in_ok-b.b 1 (wider c.same.new.bank c.make-2.new.self c.in_ok-b.b 1 c.make-2.ensures.grows c.in_ok-b.ensures.width)
 
 pub write_row-requires-clause-rows : goal.write_row-requires-clause-rows
 write_row-requires-clause-rows g c =

@@ -1,5 +1,5 @@
 use Rattle.std.proofs.Common.{refl, ◌≡◌, OnOk, IfOk, List, subst}
-use Rattle.ygg_shape_words.specs.ygg_bank_proofs_Widths.{wider, extends_both}
+use Rattle.ygg_shape_words.specs.ygg_bank_proofs_Widths.{wider, stands, extends_both}
 use Rattle.ygg_shape_words.proofs.Fit.{alike}
 use Rattle.ygg_shape_cells.proofs.Wider.{rows_alike_wider}
 use Rattle.std.proofs.lemmas.Result.{IfOk-from_err}
@@ -14,6 +14,9 @@ same-requires g c =
       words = alike c.make.new.self c.args.place.at c.in_ok-constant.constant c.args.place.width
           (wider c.args.bank.now c.make.new.self c.args.place.at c.args.place.width c.make.ensures.grows c.requires.place) c.in_ok-constant.ensures.width;
     }
+
+pub write_row-requires-clause-met : goal.write_row-requires-clause-met
+write_row-requires-clause-met g c = stands c.same.new.bank c.in_ok-test.test 1 c.in_ok-test.ensures.width
 
 pub write_row-requires-clause-rows : goal.write_row-requires-clause-rows
 write_row-requires-clause-rows g c =
