@@ -9,8 +9,8 @@ ghost use Rattle.ygg_shape_cells.specs.Terms.{AreRows, CanStore, IsRow, IsTable,
 ghost use Rattle.ygg_shape_cells.specs.Guarding.{IsWrittenWhere, guarded_at, guarded_from, guarded_known, guarded_split, stored_where};
 
 use crate::cells::put_row;
-use crate::pruning::write_row;
 use crate::merging::merge_row;
+use crate::pruning::write_row;
 use crate::terms::{SymRow, SymTable};
 use std::alloc::Global;
 use ygg_shape_words::{Bank, Book, Id, NoMemory, Node, fits, known, same};

@@ -4,11 +4,11 @@
 
 pub mod cells;
 pub mod fresh;
-pub mod pruning;
 pub mod guarding;
 pub mod merging;
 pub mod pairs;
 mod places;
+pub mod pruning;
 pub mod row_words;
 pub mod selecting;
 pub mod sharing;

@@ -132,13 +132,7 @@ fn known_apart(one: Option<Word>, two: Option<Word>) -> bool
     ensures { result ≡ known_apart one two }
 {
     match (one, two) {
-        (Some(one), Some(two)) => {
-            if one.bits == two.bits {
-                false
-            } else {
-                true
-            }
-        }
+        (Some(one), Some(two)) => { if one.bits == two.bits { false } else { true } }
         _ => false,
     }
 }

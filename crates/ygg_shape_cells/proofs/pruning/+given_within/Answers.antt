@@ -7,9 +7,16 @@ pub returns-then-depth-eq0 : goal.returns-then-depth-eq0
 returns-then-depth-eq0 t c = given_zero c.args.bank.now c.args.test c.args.word c.args.depth c.if-depth-eq0.true
 
 pub given_within-requires : goal.given_within-requires
-given_within-requires t c =
-    (omega (arith, c.if-depth-eq0.false), (c.requires.bank, (c.requires.test,
-    inner_stands c.args.bank.now c.args.test c.args.word c.in-Some.next c.requires.bank.ordered c.requires.word (sym c.in-Some.ensures))))
+given_within-requires t c = (
+  omega (arith, c.if-depth-eq0.false),
+  (
+    c.requires.bank,
+    (
+      c.requires.test,
+      inner_stands c.args.bank.now c.args.test c.args.word c.in-Some.next c.requires.bank.ordered c.requires.word (sym c.in-Some.ensures),
+    ),
+  ),
+)
 
 pub returns-in-Some : goal.returns-in-Some
 returns-in-Some t c =
