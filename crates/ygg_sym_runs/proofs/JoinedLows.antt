@@ -1,12 +1,12 @@
 -- States that are joined: as merged ones, where picks of one word under two tests are one pick.
-use Rattle.std.proofs.Common.{◌≡◌, if◌then◌else◌, List, [], ◌∷◌, ap, ◌∙◌, subst, sym, Result, Ok, Err, IfOk, OnOk}
+use Rattle.std.proofs.Common.{◌≡◌, if◌then◌else◌, List, [], ◌∷◌, ap, ◌∙◌}
 use Rattle.ygg_syntax.specs.declared.tree.Declared.{Declared}
 use Rattle.ygg_sym_runs.specs.ygg_meaning.Shapes.{shape_in}
 use Rattle.ygg_sym_runs.specs.ygg_rules.declared.rule.RuleKind.{RuleKind}
 use Rattle.ygg_sym_runs.specs.ygg_bank_proofs_Meaning.{fits_fewer}
 use Rattle.ygg_sym_runs.specs.ygg_bank_proofs_Widths.{wider, extends_both, extends_self}
-use Rattle.ygg_sym_runs.specs.ygg_bank.Nodes.{HasWidth, IsBank}
-use Rattle.ygg_sym_runs.specs.ygg_bank.Values.{Inputs, Values, value_of}
+use Rattle.ygg_sym_runs.specs.ygg_bank.Nodes.{HasWidth}
+use Rattle.ygg_sym_runs.specs.ygg_bank.Values.{Inputs, Values}
 use Rattle.ygg_sym_runs.specs.ygg_bank.declared.node.Id.{Id}
 use Rattle.ygg_sym_runs.specs.ygg_bank.declared.node.Node.{Node}
 use Rattle.ygg_sym_runs.specs.ygg_shape_words_proofs_Keeps.{Stays}
@@ -18,12 +18,9 @@ use Rattle.ygg_sym_runs.specs.ygg_shape_joins_proofs_Joins.{joined_grows, joined
 use Rattle.ygg_sym_runs.specs.ygg_shape_joins_proofs_JoinedWorth.{joined_gives}
 use Rattle.ygg_sym_runs.specs.ExpressionMeaning.{Grows, Gives}
 use Rattle.ygg_sym_runs.specs.Meaning.{is_set}
-use Rattle.ygg_sym_runs.specs.Lower.{KeepsSingle, SingleFrom}
 use Rattle.ygg_sym_runs.specs.Lows.{LowShaped, low_worth, join_lows}
 use Rattle.ygg_sym_runs.proofs.Keeps.{Keeps}
 use Rattle.ygg_sym_runs.proofs.Lows.{LowIs, low_wider, bind_if, same_if}
-use Rattle.ygg_sym_runs.proofs.of_ygg_shape.Answered.{no_inputs, some_fit}
-use Rattle.ygg_sym_runs.proofs.Singles.{single_stays}
 
 module _ (inputs : Inputs) (v : Values) (kinds : List RuleKind) where
   pub join_lows_grows : (t : Id) (a b : List SymValue) → Grows (join_lows kinds t a b)
@@ -58,19 +55,3 @@ module _ (inputs : Inputs) (v : Values) (kinds : List RuleKind) where
 -- what holds of nodes, and stays as nodes other than inputs are made, holds after states are joined
 pub joins_keep : (kinds : List RuleKind) (P : List Node → Type 0) → Stays kinds P → (t : Id) (a b : List SymValue) → Keeps P (join_lows kinds t a b)
 joins_keep kinds P stays t a b nodes p = joined_all_keeps kinds P stays t a b nodes p
-
--- no input comes as states are joined
-pub joined_single : (kinds : List RuleKind) (t : Id) (xs ys : List SymValue) (old new : List Node) → new ≡ (join_lows kinds t xs ys old).nodes →
-    KeepsSingle old new
-joined_single kinds t xs ys old new e = λ first h. subst (SingleFrom first) (sym e)
-    (joined_all_keeps kinds (SingleFrom first) (single_stays kinds first) t xs ys old h)
-
--- a state that was joined of two stands with its names
-pub joined_lows : {E : Type 0} (kinds : List RuleKind) (names : List Declared) (t : Id) (one two : List SymValue) (old new : List Node)
-    (r : Result (List SymValue) E) → IsBank new → HasWidth old t 1 → OnOk r (new ≡ (join_lows kinds t one two old).nodes) →
-    IfOk r (λ answers. answers ≡ (join_lows kinds t one two old).value) → LowShaped old names one → LowShaped old names two → IfOk r (LowShaped new names)
-joined_lows kinds names t one two old new (Ok answers) b w e f p q =
-    let o = join_lows kinds t one two old in
-    let m = join_worth no_inputs (value_of no_inputs o.nodes) kinds names t one two old w p q (some_fit o.nodes (subst IsBank e b)) in
-    subst (λ z. LowShaped z names answers) (sym e) (subst (LowShaped o.nodes names) (sym f) m.has)
-joined_lows kinds names t one two old new (Err x) b w e f p q = tt

@@ -41,6 +41,7 @@ pub mod Sizes
 pub mod Rooms
 pub mod Lows
 pub mod JoinedLows
+pub mod JoinedStates
 pub mod DiskKeeps
 pub mod Disks
 pub mod Placed

@@ -1,4 +1,4 @@
-use Rattle.ygg_sym_runs.proofs.JoinedLows.{joined_lows}
+use Rattle.ygg_sym_runs.proofs.JoinedStates.{joined_lows}
 use Rattle.ygg_sym_runs.proofs.low_states.join_lows.Goals as goal
 
 pub returns-clause-shape : goal.returns-clause-shape

@@ -1,7 +1,7 @@
 use Rattle.std.proofs.Common.{subst, sym}
 use Rattle.ygg_sym_spec.specs.ygg_meaning.Stack.{tables_of}
 use Rattle.ygg_sym_machine.specs.ygg_sym_runs.Lows.{LowShaped}
-use Rattle.ygg_sym_spec.proofs.of_ygg_sym_runs.JoinedLows.{joined_single}
+use Rattle.ygg_sym_spec.proofs.of_ygg_sym_runs.JoinedStates.{joined_single}
 use Rattle.ygg_sym_spec.proofs.of_ygg_sym_runs.MergedLows.{lows_alike}
 use Rattle.ygg_sym.proofs.disk_stops.DiskStopsSymStops.join.Goals as goal
 

@@ -1,6 +1,6 @@
 use Rattle.std.proofs.Common.{subst, sym}
 use Rattle.ygg_sym_machine.specs.ygg_sym_runs.Lows.{LowShaped}
-use Rattle.ygg_sym_spec.proofs.of_ygg_sym_runs.JoinedLows.{joined_single}
+use Rattle.ygg_sym_spec.proofs.of_ygg_sym_runs.JoinedStates.{joined_single}
 use Rattle.ygg_sym_spec.proofs.of_ygg_sym_runs.MergedLows.{lows_alike}
 use Rattle.ygg_sym.proofs.spec_stops.SpecStopsSymStops.join.Goals as goal
 
