@@ -55,7 +55,7 @@ use Rattle.ygg_shape_words.specs.ygg_bank.declared.node.Node.TheVariants.{Const}
 use Rattle.ygg_shape_cells.proofs.Rows.{RowIs, split_at_is}
 use Rattle.ygg_shape_cells.proofs.Selected.{within_is, constant_place}
 use Rattle.ygg_shape_cells.proofs.Tables.{RowsAre, stored_is, stored_length}
-use Rattle.ygg_shape_cells.proofs.Wider.{rows_wider, words_in_table, width_in_table}
+use Rattle.ygg_shape_cells.proofs.Wider.{rows_wider}
 use Rattle.ygg_shape_cells.proofs.Worth.{digits, grid, row_worth, table_worth, table_like, merged_is}
 use Rattle.ygg_shape_cells.specs.Making.{merged, split_at, row_or_zeros, selected, selected_at, selected_within, stored, width_in}
 use Rattle.ygg_shape_cells.specs.Meaning.{IsRead, IsWritten, IsMerged, IsConstant, AddsAtMostZero}

@@ -1,5 +1,5 @@
 -- Steps only add nodes after those that are there.
-use Rattle.std.proofs.Common.{ℕ, List}
+use Rattle.std.proofs.Common.{ℕ, Bool, List}
 use Rattle.ygg_shape_words.specs.ygg_rules.declared.rule.RuleKind.{RuleKind}
 use Rattle.ygg_shape_words.specs.ygg_bank_proofs_Widths.{extends_self}
 use Rattle.ygg_shape_words.specs.ygg_bank.Nodes.{Extends}
@@ -8,10 +8,15 @@ use Rattle.ygg_shape_words.specs.ygg_bank.declared.node.Node.{Node}
 use Rattle.ygg_shape_words.proofs.Keeps.{grows_stays}
 use Rattle.ygg_shape_cells.specs.Making.{merged_row, written_row, merged_rows, merged, split_at, where_at, zeros, chosen}
 use Rattle.ygg_shape_cells.specs.Making.{selected, selected_within, stored_from, stored}
+use Rattle.ygg_shape_cells.specs.Lists.{each_from}
+use Rattle.ygg_shape_cells.specs.Pruning.{given_row}
+use Rattle.ygg_shape_given.specs.Giving.{given}
 use Rattle.ygg_shape_cells.specs.declared.terms.SymValue.{SymValue}
 use Rattle.ygg_shape_cells.specs.Guarding.{guarded_split, guarded_at, guarded_from, stored_where}
 use Rattle.ygg_shape_cells.proofs.Keeps.{
   merged_row_keeps,
+  given_from_keeps,
+  given_row_keeps,
   written_row_keeps,
   merged_rows_keeps,
   merged_keeps,
@@ -32,6 +37,13 @@ use Rattle.ygg_shape_cells.proofs.Keeps.{
 module _ (kinds : List RuleKind) where
   pub merged_row_grows : (t : Id) (xs ys : List Id) (nodes : List Node) → Extends nodes (merged_row kinds t xs ys nodes).nodes
   merged_row_grows t xs ys nodes = merged_row_keeps kinds (Extends nodes) (grows_stays kinds nodes) t xs ys nodes (extends_self nodes)
+
+  pub given_from_grows : (t : Id) (on : Bool) (i : ℕ) (row : List Id) (nodes : List Node) →
+      Extends nodes (each_from (λ number a. given kinds t on a) i row nodes).nodes
+  given_from_grows t on i row nodes = given_from_keeps kinds (Extends nodes) (grows_stays kinds nodes) t on i row nodes (extends_self nodes)
+
+  pub given_row_grows : (t : Id) (on : Bool) (row : List Id) (nodes : List Node) → Extends nodes (given_row kinds t on row nodes).nodes
+  given_row_grows t on row nodes = given_row_keeps kinds (Extends nodes) (grows_stays kinds nodes) t on row nodes (extends_self nodes)
 
   pub written_row_grows : (t m : Id) (xs ys : List Id) (nodes : List Node) → Extends nodes (written_row kinds t m xs ys nodes).nodes
   written_row_grows t m xs ys nodes = written_row_keeps kinds (Extends nodes) (grows_stays kinds nodes) t m xs ys nodes (extends_self nodes)

@@ -14,6 +14,8 @@ use Rattle.ygg_shape_words.specs.ygg_bank.declared.node.Node.TheVariants.{Const,
 use Rattle.ygg_shape_words.proofs.Keeps.{Stays, picked_keeps, same_words_keeps}
 use Rattle.ygg_shape_words.specs.Same.{same_words}
 use Rattle.ygg_shape_words.specs.Picking.{picked}
+use Rattle.ygg_shape_given.proofs.Worth.{given_keeps}
+use Rattle.ygg_shape_given.specs.Giving.{given}
 use Rattle.ygg_shape_cells.specs.Pruning.{given_row}
 use Rattle.ygg_shape_cells.specs.Lists.{each_two, each_from, fold_two, fold_from}
 use Rattle.ygg_shape_cells.specs.Making.{
@@ -79,8 +81,16 @@ module _ (kinds : List RuleKind) (P : List Node → Type 0) (stays : Stays kinds
   pub merged_row_keeps : (t : Id) (xs ys : List Id) (nodes : List Node) → P nodes → P (merged_row kinds t xs ys nodes).nodes
   merged_row_keeps t xs ys nodes p = each_two_keeps P (picked kinds t) (picked_keeps kinds P stays t) xs ys nodes p
 
+  pub given_from_keeps : (t : Id) (on : Bool) (i : ℕ) (row : List Id) (nodes : List Node) → P nodes →
+      P (each_from (λ number a. given kinds t on a) i row nodes).nodes
+  given_from_keeps t on i row nodes p = each_from_keeps P (λ number a. given kinds t on a) (λ i a. given_keeps kinds P stays t on a) i row nodes p
+
+  pub given_row_keeps : (t : Id) (on : Bool) (row : List Id) (nodes : List Node) → P nodes → P (given_row kinds t on row nodes).nodes
+  given_row_keeps t on row nodes p = given_from_keeps t on 0 row nodes p
+
   pub written_row_keeps : (t m : Id) (xs ys : List Id) (nodes : List Node) → P nodes → P (written_row kinds t m xs ys nodes).nodes
-  written_row_keeps t m xs ys nodes p = merged_row_keeps t (given_row nodes m xs) ys nodes p
+  written_row_keeps t m xs ys nodes p =
+      let o = given_row kinds m true xs nodes in merged_row_keeps t o.value ys o.nodes (given_row_keeps m true xs nodes p)
 
   pub merged_rows_keeps : (t : Id) (xs ys : List (List Id)) (nodes : List Node) → P nodes → P (merged_rows kinds t xs ys nodes).nodes
   merged_rows_keeps t xs ys nodes p = each_two_keeps P (merged_row kinds t) (merged_row_keeps t) xs ys nodes p

@@ -49,8 +49,8 @@ use Rattle.ygg_shape_words.proofs.Picks.{picked_is}
 use Rattle.ygg_shape_words.proofs.Terms.{holds, made_is, either, number_if, bit_is}
 use Rattle.ygg_shape_words.specs.Picking.{picked}
 use Rattle.ygg_shape_words.specs.Same.{same_words}
-use Rattle.ygg_shape_cells.proofs.Pruned.{given_row_shape, given_row_is}
-use Rattle.ygg_shape_cells.proofs.Grows.{merged_row_grows, written_row_grows}
+use Rattle.ygg_shape_cells.proofs.Pruned.{given_row_is}
+use Rattle.ygg_shape_cells.proofs.Grows.{merged_row_grows, given_row_grows, written_row_grows}
 use Rattle.ygg_shape_cells.proofs.Wider.{IsWide, all_wider, row_wider}
 use Rattle.ygg_shape_cells.proofs.Words.{row_if}
 use Rattle.ygg_shape_cells.specs.Pruning.{given_row}
@@ -108,12 +108,14 @@ module _ (inputs : Inputs) (v : Values) (kinds : List RuleKind) where
       RowIs inputs v (written_row kinds t m xs ys nodes).nodes n w (if holds inputs v t then numbers_of v xs else numbers_of v ys)
       (written_row kinds t m xs ys nodes).value
   written_row_is n w t m xs ys nodes d i p q h =
-      let new = given_row nodes m xs in
-      let begun = fits_fewer inputs v nodes (written_row kinds t m xs ys nodes).nodes (written_row_grows kinds t m xs ys nodes) h in
-      let r = merged_row_is n w t new ys nodes d (given_row_shape nodes m n w xs begun.ordered p) q h in
+      let o = given_row kinds m true xs nodes in
+      let g = given_row_grows kinds m true xs nodes in
+      let begun = fits_fewer inputs v o.nodes (merged_row kinds t o.value ys o.nodes).nodes (merged_row_grows kinds t o.value ys o.nodes) h in
+      let new = given_row_is inputs v kinds m true n w xs nodes p begun in
+      let r = merged_row_is n w t o.value ys o.nodes (wider nodes o.nodes t 1 g d) new.shaped (row_wider nodes o.nodes n w ys g q) h in
       record {
         shaped = r.shaped;
-        is = r.is ∙ under (holds inputs v t) (numbers_of v new) (numbers_of v xs) (numbers_of v ys) (λ e. given_row_is inputs v nodes begun m xs (i e));
+        is = r.is ∙ under (holds inputs v t) (numbers_of v o.value) (numbers_of v xs) (numbers_of v ys) (λ e. new.is (i e));
       }
 
   -- zeros

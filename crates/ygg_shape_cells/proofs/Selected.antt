@@ -1,5 +1,5 @@
 -- What a reading at a place that may be picks of places is worth, and what it makes.
-use Rattle.std.proofs.Common.{◌≡◌, ◌<◌, ◌-◌, ℕ, zero, suc, if◌then◌else◌, Option, Some, None, List, [], map, replicate, slice_get, unwrap_or}
+use Rattle.std.proofs.Common.{◌≡◌, ◌<◌, ◌-◌, ℕ, zero, suc, if◌then◌else◌, Option, Some, List, [], map, replicate, slice_get, unwrap_or}
 use Rattle.std.proofs.Common.{refl, sym, ap, ◌∙◌, subst, arith}
 use Rattle.ygg_value.specs.Number.{Number}
 use Rattle.ygg_shape_words.specs.ygg_rules.declared.rule.RuleKind.{RuleKind}

@@ -1,5 +1,5 @@
 -- What merging, selecting and storing make in a bank, under a book of these kinds.
-use Rattle.std.specs.Prelude.{ℕ, zero, suc, ◌^◌, nat_lt, if◌then◌else◌, Option, Some, None, List, ◌∷◌, replicate, slice_get, slice_set}
+use Rattle.std.specs.Prelude.{ℕ, zero, suc, true, ◌^◌, nat_lt, if◌then◌else◌, Option, Some, None, List, ◌∷◌, replicate, slice_get, slice_set}
 use Rattle.ygg_value.specs.Number.{Number}
 use Rattle.ygg_value.specs.Words.{word}
 use Rattle.ygg_shape_words.specs.ygg_rules.declared.rule.RuleKind.{RuleKind}
@@ -35,7 +35,7 @@ merged kinds test one two = pure one
 
 -- one row where a test is 1, its words as they are where another test is 1 that follows from the first, and else the other row
 abbrev pub written_row : List RuleKind → Id → Id → List Id → List Id → Make (List Id)
-written_row kinds test met new old nodes = merged_row kinds test (given_row nodes met new) old nodes
+written_row kinds test met new old = and_make (given_row kinds met true new) (λ pruned. merged_row kinds test pruned old)
 
 -- one row where the place, which is so wide, has this number, and else the other
 abbrev pub split_at : List RuleKind → Id → ℕ → ℕ → List Id → List Id → Make (List Id)

@@ -1,4 +1,4 @@
-use Rattle.std.proofs.Common.{rules, ◌≡◌, ◌<◌, OnOk, IfOk, List, Some, sym, ap, ◌∙◌, subst, arith}
+use Rattle.std.proofs.Common.{rules, ◌≡◌, ◌<◌, OnOk, IfOk, List, sym, subst, arith}
 use Rattle.ygg_shape_words.specs.ygg_bank_proofs_Widths.{extends_both, has_width, stands, wider}
 use Rattle.ygg_shape_words.specs.ygg_bank.Makes.{Out}
 use Rattle.ygg_shape_words.specs.ygg_bank.Nodes.{width_at, widths_of}
