@@ -27,7 +27,6 @@ use Rattle.ygg_sym_laws.specs.ygg_shape_words_proofs_Terms.{made_is}
 use Rattle.ygg_sym_laws.specs.ygg_shape_words.Forms.{WordsAlike}
 use Rattle.ygg_sym_laws.specs.ygg_shape_cells.Terms.{worth}
 use Rattle.ygg_sym_laws.specs.ygg_shape_cells.declared.terms.SymValue.{SymValue}
-use Rattle.ygg_sym_laws.proofs.of_ygg_shape.Holding.{found_fit, found_true}
 use Rattle.ygg_sym_laws.proofs.of_ygg_shape.Replaced.{AreTrue, value_fits, value_is}
 use Rattle.ygg_sym_laws.specs.ygg_shape.Finding.{facts_in}
 use Rattle.ygg_sym_laws.specs.ygg_shape.Replacing.{replaced_value, AreFit}
