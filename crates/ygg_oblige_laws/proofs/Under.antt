@@ -1,5 +1,5 @@
 -- A test made anew over values in which what it says of inputs stands in their stead: it is what it was.
-use Rattle.std.proofs.Common.{◌≡◌, ◌&&◌, ◌==◌, Bool, true, false, List, [], ◌∷◌, All, refl, sym, ap, ◌∙◌}
+use Rattle.std.proofs.Common.{◌≡◌, ◌&&◌, ◌==◌, Bool, true, false, List, [], ◌∷◌, refl, sym, ap, ◌∙◌}
 use Rattle.std.proofs.lemmas.Bool.{eqb-true}
 use Rattle.std.proofs.lemmas.Bool.Decides.{Decides-eqb}
 use Rattle.std.proofs.lemmas.List.Elements.{All-weaker, All-nil, All-cons, All-head, All-tail}
@@ -9,7 +9,7 @@ use Rattle.ygg_value.specs.declared.operation.Op.TheVariants.{And, Eq}
 use Rattle.ygg_sym_laws.specs.ygg_rules.declared.rule.RuleKind.{RuleKind}
 use Rattle.ygg_sym_laws.specs.ygg_bank_proofs_Made.{made_grows}
 use Rattle.ygg_sym_laws.specs.ygg_bank_proofs_Meaning.{fits_fewer}
-use Rattle.ygg_sym_laws.specs.ygg_bank_proofs_Widths.{wider, extends_both, extends_self}
+use Rattle.ygg_sym_laws.specs.ygg_bank_proofs_Widths.{wider, extends_both}
 use Rattle.ygg_sym_laws.specs.ygg_bank.Makes.{Make}
 use Rattle.ygg_sym_laws.specs.ygg_bank.Making.{made}
 use Rattle.ygg_sym_laws.specs.ygg_bank.Nodes.{HasWidth, Extends}
