@@ -1,5 +1,5 @@
 -- What a digit says of a schedule: it is 0 exactly where the schedule violates the obligation.
-use Rattle.std.proofs.Common.{◌≡◌, ◌⊎◌, ◌↔◌, ◌&&◌, ◌||◌, not, ℕ, Bool, true, false, List, [], length, inl, inr, refl, sym, ap, ◌∙◌}
+use Rattle.std.proofs.Common.{◌≡◌, ◌⊎◌, ◌↔◌, ◌&&◌, ◌||◌, not, ℕ, Bool, true, false, List, [], inl, inr, refl, sym, ap, ◌∙◌}
 use Rattle.std.specs.Prelude.{Option, Some, None, is_some}
 use Rattle.ygg_oblige_laws.specs.ygg_meaning.Layer.{ClosedLayer}
 use Rattle.ygg_oblige_laws.specs.ygg_meaning.Obligations.{Halt, Schedule, Obligation, Again, StopsAt}

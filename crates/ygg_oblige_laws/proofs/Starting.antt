@@ -1,8 +1,6 @@
 -- The states that obligations begin with.
 use Rattle.std.proofs.Common.{◌≡◌, ◌&&◌, ◌+◌, ℕ, true, List, [], ◌∷◌, map, refl, sym, ap, ◌∙◌, subst, arith}
-use Rattle.std.proofs.lemmas.Bool.{and_from as both_of, eqb-true}
-use Rattle.std.proofs.lemmas.List.Elements.{All-weaker}
-use Rattle.ygg_value.specs.Words.{word}
+use Rattle.std.proofs.lemmas.Bool.{and_from as both_of}
 use Rattle.ygg_syntax.specs.declared.tree.Declared.{Declared}
 use Rattle.ygg_syntax.specs.declared.tree.Def.{Def}
 use Rattle.ygg_sym_laws.specs.ygg_meaning.Environments.{bind}
@@ -11,31 +9,21 @@ use Rattle.ygg_sym_laws.specs.ygg_meaning.Refines.{Below}
 use Rattle.ygg_sym_laws.specs.ygg_meaning.Related.{all_true, relations, relates, settles}
 use Rattle.ygg_sym_laws.specs.ygg_meaning.Shapes.{shape_in, env_fits}
 use Rattle.ygg_sym_laws.specs.ygg_rules.declared.rule.RuleKind.{RuleKind}
-use Rattle.ygg_sym_laws.specs.ygg_bank_proofs_Made.{made_grows}
 use Rattle.ygg_sym_laws.specs.ygg_bank_proofs_Meaning.{fits_fewer}
 use Rattle.ygg_sym_laws.specs.ygg_bank_proofs_Widths.{wider, extends_both}
 use Rattle.ygg_sym_laws.specs.ygg_bank.Inputs.{InputsBelow}
-use Rattle.ygg_sym_laws.specs.ygg_bank.Making.{made}
-use Rattle.ygg_sym_laws.specs.ygg_bank.Nodes.{HasWidth, Extends}
+use Rattle.ygg_sym_laws.specs.ygg_bank.Nodes.{Extends}
 use Rattle.ygg_sym_laws.specs.ygg_bank.Values.{Inputs, Values}
-use Rattle.ygg_sym_laws.specs.ygg_bank.declared.node.Id.{Id}
 use Rattle.ygg_sym_laws.specs.ygg_bank.declared.node.Node.{Node}
-use Rattle.ygg_sym_laws.specs.ygg_bank.declared.node.Node.TheVariants.{Const}
-use Rattle.ygg_sym_laws.specs.ygg_shape_words_proofs_Fit.{alike_wider}
 use Rattle.ygg_sym_laws.specs.ygg_shape_words_proofs_Keeps.{Stays, inputs_stay}
-use Rattle.ygg_sym_laws.specs.ygg_shape_words_proofs_Terms.{made_is}
-use Rattle.ygg_sym_laws.specs.ygg_shape_words.Forms.{WordsAlike}
 use Rattle.ygg_sym_laws.specs.ygg_shape_cells.Terms.{worth}
 use Rattle.ygg_sym_laws.specs.ygg_shape_cells.declared.terms.SymValue.{SymValue}
-use Rattle.ygg_sym_laws.proofs.of_ygg_shape.Holding.{found_fit, found_true}
 use Rattle.ygg_sym_laws.proofs.of_ygg_shape.Replaced.{AreTrue, value_fits, value_is}
-use Rattle.ygg_sym_laws.specs.ygg_shape.Finding.{facts_in}
 use Rattle.ygg_sym_laws.specs.ygg_shape.Replacing.{replaced_value, AreFit}
 use Rattle.ygg_sym_laws.specs.ygg_shape.declared.replacing.Replacement.{Replacement}
 use Rattle.ygg_sym_laws.specs.ygg_sym_runs.Exprs.{SymFunctions}
 use Rattle.ygg_sym_laws.specs.ygg_sym_runs.ExpressionMeaning.{Grows, Gives}
 use Rattle.ygg_sym_laws.specs.ygg_sym_runs_proofs_Keeps.{Keeps, FunctionsKeep}
-use Rattle.ygg_sym_laws.specs.Meaning.{is_set}
 use Rattle.ygg_sym_laws.proofs.Lows.{low_wider}
 use Rattle.ygg_sym_laws.specs.Lows.{LowShaped, low_worth}
 use Rattle.ygg_sym_laws.specs.Means.{terms_of}

@@ -1,5 +1,5 @@
 -- A test made anew over values in which what it says of inputs stands in their stead: it is what it was.
-use Rattle.std.proofs.Common.{◌≡◌, ◌&&◌, ◌==◌, Bool, true, false, List, [], ◌∷◌, All, refl, sym, ap, ◌∙◌}
+use Rattle.std.proofs.Common.{◌≡◌, ◌&&◌, ◌==◌, Bool, true, false, List, [], ◌∷◌, refl, sym, ap, ◌∙◌}
 use Rattle.std.proofs.lemmas.Bool.{eqb-true}
 use Rattle.std.proofs.lemmas.Bool.Decides.{Decides-eqb}
 use Rattle.std.proofs.lemmas.List.Elements.{All-weaker, All-nil, All-cons, All-head, All-tail}
@@ -9,7 +9,7 @@ use Rattle.ygg_value.specs.declared.operation.Op.TheVariants.{And, Eq}
 use Rattle.ygg_sym_laws.specs.ygg_rules.declared.rule.RuleKind.{RuleKind}
 use Rattle.ygg_sym_laws.specs.ygg_bank_proofs_Made.{made_grows}
 use Rattle.ygg_sym_laws.specs.ygg_bank_proofs_Meaning.{fits_fewer}
-use Rattle.ygg_sym_laws.specs.ygg_bank_proofs_Widths.{wider, extends_both, extends_self}
+use Rattle.ygg_sym_laws.specs.ygg_bank_proofs_Widths.{wider, extends_both}
 use Rattle.ygg_sym_laws.specs.ygg_bank.Makes.{Make}
 use Rattle.ygg_sym_laws.specs.ygg_bank.Making.{made}
 use Rattle.ygg_sym_laws.specs.ygg_bank.Nodes.{HasWidth, Extends}
@@ -21,7 +21,7 @@ use Rattle.ygg_sym_laws.specs.ygg_shape_words_proofs_Fit.{alike_wider, can_equal
 use Rattle.ygg_sym_laws.specs.ygg_shape_words_proofs_Keeps.{Stays}
 use Rattle.ygg_sym_laws.specs.ygg_shape_words_proofs_Terms.{made_is}
 use Rattle.ygg_sym_laws.specs.ygg_shape_words.Forms.{WordsAlike}
-use Rattle.ygg_sym_laws.proofs.of_ygg_shape.Holding.{found_fit, found_true}
+use Rattle.ygg_sym_laws.proofs.of_ygg_shape.Hypotheses.{all_true, facts_are, facts_keep}
 use Rattle.ygg_sym_laws.proofs.of_ygg_shape.Replaced.{AreTrue}
 use Rattle.ygg_sym_laws.specs.ygg_shape.Finding.{facts_in}
 use Rattle.ygg_sym_laws.specs.ygg_shape.Replacing.{AreFit}
@@ -31,7 +31,7 @@ use Rattle.ygg_sym_laws.specs.ygg_sym_runs_proofs_Keeps.{Keeps}
 use Rattle.ygg_sym_laws.specs.Meaning.{is_set}
 use Rattle.ygg_oblige_laws.specs.TermStates.{Under, known_made, under_made}
 use Rattle.ygg_oblige_laws.specs.Worth.{IsTruth}
-use Rattle.ygg_oblige_laws.proofs.Truth.{adds, one_word, none_word, truth_of, one_gives, and_gives}
+use Rattle.ygg_oblige_laws.proofs.Truth.{adds, truth_of, one_gives, and_gives}
 use Rattle.ygg_oblige_laws.proofs.Digits.{both_true, both_hold}
 
 -- facts fit among more nodes
@@ -41,11 +41,6 @@ facts_wider old new rs g f =
     (λ r h. alike_wider old new r.input r.term g h) rs f
 
 module _ (kinds : List RuleKind) (P : List Node → Type 0) (stays : Stays kinds P) where
-  facts_keep : (h : Id) → Keeps P (facts_in kinds h)
-  facts_keep h nodes p =
-      let one = made kinds (Const (word 1 1)) nodes in
-      stays (Const (word 1 0)) one.nodes tt (stays (Const (word 1 1)) nodes tt p)
-
   known_keep : (rs : List Replacement) → Keeps P (known_made kinds rs)
   known_keep [] nodes p = stays (Const (word 1 1)) nodes tt p
   known_keep (r ∷ rs) nodes p =
@@ -60,7 +55,7 @@ module _ (kinds : List RuleKind) (P : List Node → Type 0) (stays : Stays kinds
       let f = facts_in kinds s.value s.nodes in
       let k = known_made kinds f.value f.nodes in
       let a = again f.value k.nodes in
-      stays (Bin And k.value a.value) a.nodes tt (ka f.value k.nodes (known_keep f.value f.nodes (facts_keep s.value s.nodes (kf nodes p))))
+      stays (Bin And k.value a.value) a.nodes tt (ka f.value k.nodes (known_keep f.value f.nodes (facts_keep kinds P stays s.value s.nodes (kf nodes p))))
 
 facts_grow : (kinds : List RuleKind) (h : Id) → Grows (facts_in kinds h)
 facts_grow kinds h = let a = adds kinds (facts_in kinds h) (λ P s. facts_keep kinds P s h) in a.grows
@@ -89,16 +84,10 @@ module _ (inputs : Inputs) (v : Values) (kinds : List RuleKind) where
 
   facts_give : (h : Id) (nodes : List Node) → HasWidth nodes h 1 → Gives inputs v (facts_in kinds h) nodes (FactsAre h)
   facts_give h nodes d f =
-      let k = made kinds (Const (word 1 1)) nodes in
-      let z = made kinds (Const (word 1 0)) k.nodes in
-      let kg = made_grows kinds (Const (word 1 1)) nodes in
-      let zg = made_grows kinds (Const (word 1 0)) k.nodes in
-      let p = made_is inputs v kinds (Const (word 1 1)) nodes one_word (fits_fewer inputs v k.nodes z.nodes zg f) in
-      let q = made_is inputs v kinds (Const (word 1 0)) k.nodes none_word f in
-      let there = wider nodes z.nodes h 1 (extends_both nodes k.nodes z.nodes kg zg) d in
+      let so = facts_are inputs v kinds h nodes d f in
       record {
-        fit = found_fit z.nodes k.value z.value h f.ordered (wider k.nodes z.nodes k.value 1 zg p.wide) q.wide there;
-        true_under = λ e. found_true inputs v z.nodes f k.value z.value h p.is q.is (there, eqb-true (v h.0).bits 1 e);
+        fit = so.fit;
+        true_under = λ e. all_true v ((v h.0).bits ≡ 1) (facts_in kinds h nodes).value (eqb-true (v h.0).bits 1 e) so.are;
       }
 
   -- a digit that is 1 just where inputs are as the terms in their stead say

@@ -21,5 +21,7 @@ pub mod ComparedKeeps
 pub mod Compared
 pub mod Listed
 pub mod Walks
-pub mod Replaced
 pub mod Holding
+pub mod Joining
+pub mod Hypotheses
+pub mod Replaced

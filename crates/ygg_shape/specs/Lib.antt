@@ -25,5 +25,8 @@ pub use Rattle.ygg_shape_cells.specs.Meaning
 pub mod Equates
 pub mod Comparing
 pub mod Replacing
+pub mod Conjuncts
+pub mod Equations
+pub mod Joins
 pub mod Finding
 pub mod Laws

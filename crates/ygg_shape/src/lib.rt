@@ -2,8 +2,11 @@
 #![tactic(auto)]
 
 pub mod comparing;
+pub mod conjuncts;
 pub mod equating;
+pub mod equations;
 pub mod finding;
+pub mod joins;
 pub mod replacing;
 pub mod replacing_law;
 pub mod whole_comparing;

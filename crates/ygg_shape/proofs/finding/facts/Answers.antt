@@ -1,5 +1,5 @@
 use Rattle.ygg_shape_cells.proofs.of_ygg_bank.Exist.{keeps_values}
-use Rattle.ygg_shape.proofs.Holding.{facts_fit, facts_true}
+use Rattle.ygg_shape.proofs.Hypotheses.{facts_fit, facts_true}
 use Rattle.ygg_shape.proofs.finding.facts.Goals as goal
 
 pub returns-clause-fit : goal.returns-clause-fit

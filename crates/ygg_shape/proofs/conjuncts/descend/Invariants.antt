@@ -1,10 +1,10 @@
 use Rattle.std.proofs.Common.{◌≡◌, ◌≤◌, ◌++◌, length}
-use Rattle.ygg_shape.specs.Finding.{found}
-use Rattle.ygg_shape.proofs.finding.descend.Given as goal
+use Rattle.ygg_shape.specs.Conjuncts.{conjuncts_below}
+use Rattle.ygg_shape.proofs.conjuncts.descend.Given as goal
 
 abbrev pub invariant-loop-place : goal.invariant-loop-place
 invariant-loop-place l = record {
-  went : l.facts ++ found l.bank l.one l.zero l.place l.marks ≡ l.fn.facts ++ found l.bank l.one l.zero l.fn.top l.fn.marks;
+  went : l.conjuncts ++ conjuncts_below l.bank l.place l.marks ≡ l.fn.conjuncts ++ conjuncts_below l.bank l.fn.top l.fn.marks;
   count : length l.marks ≡ l.fn.top;
   below : l.place ≤ l.fn.top;
 }
