@@ -37,9 +37,9 @@ use Rattle.ygg_shape_sums.specs.Parts.{Sum, PartsFit, part}
 use Rattle.ygg_shape_sums.specs.Readings.{FactsFit, fact}
 use Rattle.ygg_shape_sums.specs.Splits.{split_of}
 use Rattle.ygg_shape_sums.specs.Reduces.{reduced_sum}
-use Rattle.ygg_shape_sums.specs.Equates.{Found, Step, split_as, vanishes_within, difference, are_sums, compared_words, equated_words}
+use Rattle.ygg_shape_sums.specs.Equates.{Found, Step, split_as, vanishes_within, vanishes_by, difference, are_sums, splits, subtracted}
+use Rattle.ygg_shape_sums.specs.Equates.{compared_words, equated_words}
 use Rattle.ygg_shape_sums.specs.declared.cancelling.TheConstants.{CANCEL_LIMIT}
-use Rattle.ygg_shape_sums.specs.declared.equating.TheConstants.{EQUATE_LIMIT}
 use Rattle.ygg_shape_sums.specs.declared.gathering.TheConstants.{READ_LIMIT}
 use Rattle.ygg_shape_sums.specs.declared.reading.Fact.{Fact}
 use Rattle.ygg_shape_sums.specs.declared.reading.TheConstants.{LESS_ONE}
@@ -145,15 +145,14 @@ module _ (inputs : Inputs) (v : Values) (w : ℕ) (wide : IsWidth w) (kinds : Li
             let r = f.words a.0 in
             let l : bits inputs v a < 2 ^ w = subst (λ u. bits inputs v a < 2 ^ u) (f.widths a.0 w p) r.fits in mod-eq_of_lt l
 
-  sums_is : (a b : Id) (nodes : List Node) → HasWidth nodes a w → HasWidth nodes b w →
-      Fits inputs v (vanishes_within kinds w EQUATE_LIMIT EQUATE_LIMIT [] (difference a b) nodes).nodes →
-      (let o = vanishes_within kinds w EQUATE_LIMIT EQUATE_LIMIT [] (difference a b) nodes in
-      TermIs inputs v o.nodes 1 (word 1 (bit_of (equal inputs v a b))) o.value.term)
-  sums_is a b nodes p q h =
+  sums_is : (n : ℕ) (a b : Id) (nodes : List Node) → HasWidth nodes a w → HasWidth nodes b w →
+      Fits inputs v (vanishes_by kinds w n (difference a b) nodes).nodes →
+      (let o = vanishes_by kinds w n (difference a b) nodes in TermIs inputs v o.nodes 1 (word 1 (bit_of (equal inputs v a b))) o.value)
+  sums_is n a b nodes p q h =
       let s = difference a b in
-      let o = vanishes_within kinds w EQUATE_LIMIT EQUATE_LIMIT [] s nodes in
-      let f = fits_fewer inputs v nodes o.nodes (vanishes_within_grows kinds w EQUATE_LIMIT EQUATE_LIMIT [] s nodes) h in
-      let m = vanishes_within_is EQUATE_LIMIT EQUATE_LIMIT [] s nodes (All-nil (λ (f : Fact). HasWidth nodes f.test 1)) (difference_fits nodes w a b p q) h in
+      let o = vanishes_within kinds w n n [] s nodes in
+      let f = fits_fewer inputs v nodes o.nodes (vanishes_within_grows kinds w n n [] s nodes) h in
+      let m = vanishes_within_is n n [] s nodes (All-nil (λ (f : Fact). HasWidth nodes f.test 1)) (difference_fits nodes w a b p q) h in
       record {
         wide = m.has;
         is = m.is (All-nil (λ (f : Fact). holds inputs v f.test ≡ f.yes)) ∙ ap (λ z. word 1 (bit_of z)) (difference_is nodes a b f p q);
@@ -176,8 +175,8 @@ compared_words_is inputs v kinds a b nodes w h =
     let e : w.width ≡ u = sym (width_is nodes a w.width w.one_has) in
     let p : HasWidth nodes a u = subst (HasWidth nodes a) e w.one_has in
     either_is inputs v (word 1 (bit_of (equal inputs v a b))) (are_sums nodes a b)
-    (and_make (vanishes_within kinds u EQUATE_LIMIT EQUATE_LIMIT [] (difference a b)) (λ r. pure r.term) nodes) (same_words kinds a b nodes)
-    (sums_is inputs v u (width_fits nodes a u f.ordered p) kinds a b nodes p (subst (HasWidth nodes b) e w.two_has))
+    (subtracted kinds a b nodes) (same_words kinds a b nodes)
+    (sums_is inputs v u (width_fits nodes a u f.ordered p) kinds (splits nodes (difference a b)) a b nodes p (subst (HasWidth nodes b) e w.two_has))
     (same_words_is inputs v kinds a b nodes w) h
 
 -- two words are equal where nothing is left of the one less the other

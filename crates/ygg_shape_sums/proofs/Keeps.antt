@@ -21,8 +21,7 @@ use Rattle.ygg_shape_sums.specs.Splits.{split_of}
 use Rattle.ygg_shape_sums.specs.Reduces.{any_product, products_of, reduced_sum}
 use Rattle.ygg_shape_sums.specs.Sides.{share, more, all_more, side, vanishes}
 use Rattle.ygg_shape_sums.specs.Cancels.{cancels}
-use Rattle.ygg_shape_sums.specs.Equates.{Step, split_as, vanishes_within, difference, are_sums, compared_words, equated_words}
-use Rattle.ygg_shape_sums.specs.declared.equating.TheConstants.{EQUATE_LIMIT}
+use Rattle.ygg_shape_sums.specs.Equates.{Step, split_as, vanishes_within, difference, are_sums, splits, subtracted, compared_words, equated_words}
 use Rattle.ygg_shape_sums.specs.declared.multiplying.TheConstants.{MULTIPLY_LIMIT}
 use Rattle.ygg_shape_sums.specs.declared.parts.Summand.{Summand}
 use Rattle.ygg_shape_sums.specs.declared.reading.Fact.{Fact}
@@ -125,8 +124,8 @@ module _ (kinds : List RuleKind) (P : List Node → Type 0) (stays : Stays kinds
   compared_words_keeps : (a b : Id) (nodes : List Node) → P nodes → P (compared_words kinds a b nodes).nodes
   compared_words_keeps a b nodes p =
       kept_if (are_sums nodes a b)
-      (and_make (vanishes_within kinds (width_at (widths_of nodes) a) EQUATE_LIMIT EQUATE_LIMIT [] (difference a b)) (λ r. pure r.term) nodes)
-      (same_words kinds a b nodes) (vanishes_within_keeps (width_at (widths_of nodes) a) EQUATE_LIMIT EQUATE_LIMIT [] (difference a b) nodes p)
+      (subtracted kinds a b nodes) (same_words kinds a b nodes)
+      (let n = splits nodes (difference a b) in vanishes_within_keeps (width_at (widths_of nodes) a) n n [] (difference a b) nodes p)
       (same_words_keeps kinds P stays a b nodes p)
 
   pub equated_words_keeps : (a b : Id) (nodes : List Node) → P nodes → P (equated_words kinds a b nodes).nodes

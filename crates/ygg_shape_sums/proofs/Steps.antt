@@ -8,6 +8,7 @@ use Rattle.std.proofs.lemmas.List.{drop_more, drop_all, drop-append-le, drop-set
 use Rattle.ygg_shape_words.specs.ygg_rules.declared.rule.RuleKind.{RuleKind}
 use Rattle.ygg_shape_words.specs.ygg_bank.Makes.{Make, Out, and_make}
 use Rattle.ygg_shape_words.specs.ygg_bank.Making.{made}
+use Rattle.ygg_shape_words.specs.ygg_bank.Nodes.{width_at, widths_of}
 use Rattle.ygg_shape_words.specs.ygg_bank.declared.node.Id.{Id}
 use Rattle.ygg_shape_words.specs.ygg_bank.declared.node.Node.{Node}
 use Rattle.ygg_shape_words.specs.ygg_bank.declared.node.Node.TheVariants.{Bin}
@@ -20,7 +21,7 @@ use Rattle.ygg_shape_sums.specs.Splits.{split_of}
 use Rattle.ygg_shape_sums.specs.Products.{Product}
 use Rattle.ygg_shape_sums.specs.Remains.{times_all, with_term, with_terms, vanishes_left}
 use Rattle.ygg_shape_sums.specs.Sides.{share, more, all_more}
-use Rattle.ygg_shape_sums.specs.Equates.{Found, IsFound, found, split_as, vanishes_within}
+use Rattle.ygg_shape_sums.specs.Equates.{Found, IsFound, found, split_as, vanishes_within, difference, splits}
 use Rattle.ygg_shape_sums.specs.declared.parts.Summand.{Summand}
 use Rattle.ygg_shape_sums.specs.declared.reading.Fact.{Fact}
 
@@ -238,3 +239,12 @@ with_terms_goes kinds w ps first old i so_far now p d s next l e g h r =
     let whole : rest s next ≡ with_terms kinds w (drop i ps) so_far now =
     goes (with_term kinds w p so_far) rest now next s g h ∙ ap (λ z. with_terms kinds w z so_far now) (sym (rest_is ps i p d l e)) in
     record { value = ap (λ (o : Out Sum). o.value) whole ∙ r.value; nodes = ap (λ (o : Out Sum). o.nodes) whole ∙ r.nodes }
+
+-- how the difference of two words is compared with 0
+pub subtracted_by : (kinds : List RuleKind) (a b : Id) (nodes : List Node) (w n : ℕ) (s : Sum) → w ≡ width_at (widths_of nodes) a → n ≡ splits nodes s →
+    s ≡ difference a b → (let k = splits nodes (difference a b) in
+    vanishes_within kinds w n n [] s nodes ≡ vanishes_within kinds (width_at (widths_of nodes) a) k k [] (difference a b) nodes)
+subtracted_by kinds a b nodes w n s e g h =
+    ap (λ z. vanishes_within kinds z n n [] s nodes) e
+    ∙ ap (λ z. vanishes_within kinds (width_at (widths_of nodes) a) z z [] s nodes) g
+    ∙ ap (λ (z : Sum). vanishes_within kinds (width_at (widths_of nodes) a) (splits nodes z) (splits nodes z) [] z nodes) h

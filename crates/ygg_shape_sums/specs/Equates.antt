@@ -15,9 +15,9 @@ use Rattle.ygg_shape_sums.specs.Readings.{fact}
 use Rattle.ygg_shape_sums.specs.Gathers.{gathered_sum, has_sum}
 use Rattle.ygg_shape_sums.specs.Remains.{vanishes_left}
 use Rattle.ygg_shape_sums.specs.Cancels.{cancels}
-use Rattle.ygg_shape_sums.specs.Reduces.{reduced_sum, loses_products}
+use Rattle.ygg_shape_sums.specs.Reduces.{any_product, reduced_sum, loses_products}
 use Rattle.ygg_shape_sums.specs.Splits.{split_of}
-use Rattle.ygg_shape_sums.specs.declared.equating.TheConstants.{EQUATE_LIMIT}
+use Rattle.ygg_shape_sums.specs.declared.equating.TheConstants.{EQUATE_LIMIT, PRODUCT_LIMIT}
 use Rattle.ygg_shape_sums.specs.declared.gathering.TheConstants.{READ_LIMIT}
 use Rattle.ygg_shape_sums.specs.declared.reading.Fact.{Fact}
 use Rattle.ygg_shape_sums.specs.declared.reading.TheConstants.{LESS_ONE}
@@ -58,10 +58,17 @@ are_sums nodes a b =
     else if has_sum READ_LIMIT nodes (difference a b).parts then true
     else loses_products nodes (width_at (widths_of nodes) a) (gathered_sum nodes [] (difference a b))
 
+-- how often the comparison of a sum with 0 may be split: more often where it has products of two terms when it is read
+abbrev pub splits : List Node → Sum → ℕ
+splits nodes s = if any_product nodes (gathered_sum nodes [] s).parts then PRODUCT_LIMIT else EQUATE_LIMIT
+
+-- whether a sum is 0, with so many splits
+abbrev pub vanishes_by : List RuleKind → ℕ → ℕ → Sum → Make Id
+vanishes_by kinds w n s = and_make (vanishes_within kinds w n n [] s) (λ r. pure r.term)
+
 -- whether the difference of two words is 0
 abbrev pub subtracted : List RuleKind → Id → Id → Make Id
-subtracted kinds a b nodes =
-    and_make (vanishes_within kinds (width_at (widths_of nodes) a) EQUATE_LIMIT EQUATE_LIMIT [] (difference a b)) (λ r. pure r.term) nodes
+subtracted kinds a b nodes = vanishes_by kinds (width_at (widths_of nodes) a) (splits nodes (difference a b)) (difference a b) nodes
 
 -- whether two words are equal, where nothing more is known of them: whether their difference is 0, where there are sums, and else as `same` says
 abbrev pub compared_words : List RuleKind → Id → Id → Make Id

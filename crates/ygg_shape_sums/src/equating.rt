@@ -7,17 +7,17 @@ ghost use Rattle.ygg_shape_words.specs.ygg_bank.Nodes.{Extends, HasWidth, IsBank
 ghost use Rattle.ygg_shape_words.specs.ygg_bank.Values.{KeepsValues};
 ghost use Rattle.ygg_shape_words.specs.Forms.{WordsAlike};
 ghost use Rattle.ygg_shape_words.specs.Same.{IsSame};
-ghost use Rattle.ygg_shape_sums.specs.Equates.{IsFound, are_sums, compared_words, difference, equated_words, split_as, subtracted, vanishes_within};
+ghost use Rattle.ygg_shape_sums.specs.Equates.{IsFound, are_sums, compared_words, difference, equated_words, split_as, splits, subtracted, vanishes_within};
 ghost use Rattle.ygg_shape_sums.specs.Parts.{PartsFit, Sum};
 ghost use Rattle.ygg_shape_sums.specs.Readings.{FactsFit, fact};
 ghost use Rattle.ygg_shape_sums.specs.Splits.{split_of};
 
 use crate::cancelling::cancels;
-use crate::gathering::has_sum;
+use crate::gathering::{gather, has_sum};
 use crate::parts::{Summand, Total};
 use crate::plain::are_plain;
 use crate::reading::{Fact, LESS_ONE, with};
-use crate::reducing::{loses_products, reduce};
+use crate::reducing::{any_product, loses_products, reduce};
 use crate::remaining::vanishes_left;
 use crate::splitting::split_of;
 use ygg_shape_words::{Bank, Book, Id, NoMemory, Node, pick, same};
@@ -25,6 +25,9 @@ use ygg_value::Word;
 
 /// How often a comparison of sums may be split.
 pub const EQUATE_LIMIT: u32 = 40;
+
+/// How often it may be split where the sums have products of two terms.
+pub const PRODUCT_LIMIT: u32 = 200;
 
 /// Whether a sum is 0 where the facts hold, with so many splits one within another.
 #[cycle(vanishes)]
@@ -130,8 +133,9 @@ fn difference(bank: &Bank, one: Id, two: Id) -> Result<Total, NoMemory>
 
 /// The term that is 1 where two words of one width are equal, and 0 where they aren't, in every environment. Where there are sums or
 /// differences, also below picks, one word is subtracted from the other: what stands on both sides goes, and picks are moved out, up to
-/// `EQUATE_LIMIT`. All else is as `same` has it. Where there are products of two terms, and all goes when they are multiplied out, on both
-/// sides of each test among their factors, the answer is the constant 1. Its only error is out of memory, after which the bank may have more nodes.
+/// `EQUATE_LIMIT`, or up to `PRODUCT_LIMIT` where products of two terms are in the difference. All else is as `same` has it. Where there are
+/// products of two terms, and all goes when they are multiplied out, on both sides of each test among their factors, the answer is the
+/// constant 1. Its only error is out of memory, after which the bank may have more nodes.
 pub fn equate<B: Book>(bank: &mut Bank, book: &B, one: Id, two: Id) -> Result<Id, NoMemory>
     requires words { WordsAlike bank.old one two }
     ensures nodes { OnOk result (bank.new ≡ (equated_words (B.kinds book.now) one two bank.old).nodes) }
@@ -214,6 +218,20 @@ fn sums<B: Book>(bank: &mut Bank, book: &B, one: Id, two: Id) -> Result<Id, NoMe
 {
     let total = difference(bank, one, two)?;
     let width = bank.width(one);
-    let mut left = EQUATE_LIMIT;
-    vanishes_within(bank, book, width, EQUATE_LIMIT, &mut left, &[], &total)
+    let count = splits(bank, width, &total)?;
+    let mut left = count;
+    vanishes_within(bank, book, width, count, &mut left, &[], &total)
+}
+
+/// How often the comparison of a sum with 0 may be split. Its only error is out of memory.
+fn splits(bank: &Bank, width: u8, total: &Total) -> Result<u32, NoMemory>
+    requires bank { IsBank bank.now }
+    requires parts { PartsFit bank.now width total.now.parts }
+    ensures { IfOk result (λ count. count ≡ splits bank.now total.now) }
+{
+    let sum = gather(bank, &[], total)?;
+    if any_product(bank, sum.parts()) {
+        return Ok(PRODUCT_LIMIT);
+    }
+    Ok(EQUATE_LIMIT)
 }
