@@ -7,3 +7,4 @@ pub mod Listed
 pub mod NumbersAfter
 pub mod Walking
 pub mod Placing
+pub mod Cases

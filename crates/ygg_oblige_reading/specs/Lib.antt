@@ -7,3 +7,4 @@ pub use Rattle.ygg_oblige.specs.declared.obligation.Obligation
 pub mod Meant
 pub mod Listing
 pub mod Sites
+pub mod Cases

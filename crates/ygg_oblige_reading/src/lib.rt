@@ -6,7 +6,7 @@ mod reading;
 mod site;
 mod starts;
 
-pub use reading::{schedule, schedule_at};
+pub use reading::{case_at, schedule, schedule_at};
 pub use site::site_at;
 pub use ygg_oblige::{Obligation, obligations};
 pub use ygg_oblige_schedule::Site;

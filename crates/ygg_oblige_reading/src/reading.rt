@@ -1,17 +1,57 @@
 //! The schedule that an environment names for an obligation of a file.
 
-ghost use Rattle.std.specs.Prelude.{◌<◌, ◌^◌, IfOk, IfSome, length};
+ghost use Rattle.std.specs.Prelude.{◌≡◌, ◌<◌, ◌^◌, IfOk, IfSome, length};
 ghost use Rattle.ygg_oblige.specs.ygg_bank.Values.{InputsFit, inputs_of};
 ghost use Rattle.ygg_oblige_list.specs.ygg_meaning.Claims.{claims_of};
+ghost use Rattle.ygg_oblige_list.specs.InCode.{obligation_of};
 ghost use Rattle.ygg_oblige_schedule.specs.Fitted.{IsFitted};
+ghost use Rattle.ygg_oblige_schedule.specs.ygg_sched.Cases.{kind_of};
+ghost use Rattle.ygg_oblige_reading.specs.Cases.{IsCaseAt};
 ghost use Rattle.ygg_oblige_reading.specs.Meant.{FitsTerms, IsExactly, IsMadeIn, IsNamed, ViolatesAtZero};
 
 use crate::site::site_at;
 use std::alloc::Global;
 use ygg_list::NoMemory;
 use ygg_oblige::{Obligation, tables};
+use ygg_oblige_list::SymObligation;
 use ygg_oblige_schedule::{Bank, Env, EnvironmentReader, InputTable, Schedule, Typed};
 use ygg_rules::Book;
+use ygg_sched::{Case, CaseKind};
+
+/// What an obligation asks.
+fn kind_of(obligation: SymObligation<'_>) -> CaseKind
+    ensures { result ≡ kind_of (obligation_of obligation.entry) }
+{
+    match obligation {
+        SymObligation::Init => CaseKind::Init,
+        SymObligation::Call(_) => CaseKind::Call,
+        SymObligation::Cut(_) => CaseKind::Cut,
+        SymObligation::Tick(_) => CaseKind::Tick,
+        SymObligation::CutTick(_) => CaseKind::CutTick,
+        SymObligation::Idle => CaseKind::Idle,
+        SymObligation::Again => CaseKind::Again,
+    }
+}
+
+/// The obligation at a place in the file's list, by the place of its layer and that of its operation or background step. Its only error is out of memory.
+pub fn case_at<B: Book>(
+    alloc: Global,
+    typed: &Typed,
+    place: usize,
+    book: &B,
+) -> Result<Case, NoMemory>
+    requires there { place < length (claims_of typed.now.file) }
+    ensures { IfOk result (IsCaseAt typed.now.file place) }
+{
+    let file = typed.file();
+    let tables = tables(alloc, file.disk)?;
+    let site = site_at(alloc, file, tables.as_slice(), book, place)?;
+    Ok(Case {
+        layer: site.place,
+        kind: kind_of(site.obligation),
+        number: site.number,
+    })
+}
 
 /// The schedule that an environment names for the obligation at a place in the file's list: the values of its inputs, and the picks, as many as the runs
 /// take and in the order in which they take them. Its only error is out of memory.

@@ -14,5 +14,4 @@ names_are_plain text tokens f a place s h =
     plain_at f (all_good f ∣ (tokens.items, a.derives) ∣₁ a.typed (accepted_has_names text tokens f a)) place s h
 
 pub printed_shows : PrintedShows
-printed_shows text tokens f a kinds terms inputs place x v =
-    shown f a.typed (accepted_has_names text tokens f a) ∣ (tokens.items, a.derives) ∣₁ kinds terms inputs place x v
+printed_shows text tokens f a place x v = shown f a.typed (accepted_has_names text tokens f a) ∣ (tokens.items, a.derives) ∣₁ place x v

@@ -1,5 +1,6 @@
 -- The obligations of a typed file whose names have the form of a name: names that may stand in lines, and shapes that keep the limits.
 use Rattle.std.proofs.Common.{◌≡◌, ℕ, Bool, true, false, List, [], ◌∷◌, ◌++◌, All, get_or, slice_get, Option, Some, None, refl, sym, ap, subst, ◌∙◌}
+use Rattle.std.specs.Prelude.{if◌then◌else◌}
 use Rattle.std.specs.List.{AllByRecursion, flat_map}
 use Rattle.std.specs.Option.{option_map}
 use Rattle.std.proofs.lemmas.List.Elements.{All-nil, recursion_from_All}
@@ -33,9 +34,16 @@ use Rattle.ygg_replay.specs.ygg_sched.Sites.{Site, arguments_of, has_state, has_
 use Rattle.ygg_replay.proofs.of_ygg_sched.Standing.{sites_are_claims}
 use Rattle.ygg_sched_names.specs.Names.{OperationNamed, LayerNamed, HasNames}
 use Rattle.ygg_sched_names.proofs.Asked.{Asked, asked_name, site_for}
-use Rattle.ygg_sched_names.proofs.Kept.{Shaped, lines_if}
 use Rattle.ygg_sched_names.proofs.Lists.{each_append, each_at, each_map, each_two, each_weaker}
 use Rattle.ygg_sched_names.proofs.Plain.{PartNamed, plain_names, plain_obligation}
+
+-- the shapes keep the limits
+abbrev Shaped : List Declared → Type 0
+Shaped = All (λ (d : Declared). IsShape (shape_in d.shape))
+
+-- the variables of which an obligation speaks
+abbrev lines_if : Bool → List Declared → List Declared
+lines_if speaks ds = if speaks then ds else []
 
 -- the names of variables may stand in lines, and their shapes keep the limits
 pub record VariablesGood (ds : List Declared) : Type 0 where

@@ -4,9 +4,7 @@ pub mod Marks
 pub mod Keys
 pub mod Taken
 pub mod Plain
-pub mod Kept
-pub mod Spare
-pub mod Facts
+pub mod Stops
 pub mod Asked
 pub mod Good
 pub mod Printed

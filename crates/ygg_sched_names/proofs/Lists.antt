@@ -1,4 +1,4 @@
--- Facts of each element of a list, and of the elements of two lists side by side.
+-- Facts of each element of a list.
 use Rattle.std.proofs.Common.{◌≡◌, ℕ, zero, suc, List, [], ◌∷◌, ◌++◌, map, slice_get, Some, subst}
 use Rattle.std.specs.List.{AllByRecursion, flat_map}
 
@@ -25,26 +25,3 @@ module _ {X : Type 0} (P : X → Type 0) where
       AllByRecursion P (flat_map (λ y. f y ∷ g y ∷ []) ys)
   each_two f g [] h = tt
   each_two f g (y ∷ ys) h = (h.0.0, (h.0.1, each_two f g ys h.1))
-
-module _ {X Y : Type 0} (P : X → Y → Type 0) where
-  -- as many, and it holds of those at each place
-  abbrev pub Zipped : List X → List Y → Type 0
-  Zipped [] [] = Unit {0}
-  Zipped (x ∷ xs) (y ∷ ys) = P x y × Zipped xs ys
-  Zipped [] (y ∷ ys) = ⊥
-  Zipped (x ∷ xs) [] = ⊥
-
-  pub zipped_append : (xs zs : List X) (ys ws : List Y) → Zipped xs ys → Zipped zs ws → Zipped (xs ++ zs) (ys ++ ws)
-  zipped_append [] zs [] ws h g = g
-  zipped_append (x ∷ xs) zs (y ∷ ys) ws h g = (h.0, zipped_append xs zs ys ws h.1 g)
-  zipped_append [] zs (y ∷ ys) ws h g = absurd h
-  zipped_append (x ∷ xs) zs [] ws h g = absurd h
-
-  pub zipped_at : (xs : List X) (ys : List Y) → Zipped xs ys → (i : ℕ) (x : X) (y : Y) → slice_get xs i ≡ Some x → slice_get ys i ≡ Some y → P x y
-  zipped_at [] ys h i x y e f = absurd (cc)
-  zipped_at (z ∷ zs) [] h i x y e f = absurd h
-  zipped_at (z ∷ zs) (w ∷ ws) h zero x y e f =
-      let left : z ≡ x = cc in
-      let right : w ≡ y = cc in
-      subst (λ (v : Y). P x v) right (subst (λ (v : X). P v w) left h.0)
-  zipped_at (z ∷ zs) (w ∷ ws) h (suc i) x y e f = zipped_at zs ws h.1 i x y e f

@@ -7,9 +7,6 @@ use Rattle.ygg_accept.specs.Accepting.{IsAccepted}
 use Rattle.ygg_accept.specs.ygg_type_rules.Files.{IsTyped}
 use Rattle.ygg_replay.specs.ygg_meaning.Obligations.{name_of}
 use Rattle.ygg_replay.specs.ygg_meaning.Claims.{Claim, claims_of}
-use Rattle.ygg_oblige_laws.specs.ygg_rules.declared.rule.RuleKind.{RuleKind}
-use Rattle.ygg_oblige_laws.specs.ygg_bank.Values.{Inputs}
-use Rattle.ygg_oblige_laws.specs.ygg_sym_runs.Exprs.{SymFunctions}
 use Rattle.ygg_oblige_laws.specs.Meaning.{claim_name}
 use Rattle.ygg_replay.specs.ygg_report.Lines.{shows_line}
 use Rattle.ygg_replay.specs.ygg_sched.declared.schedule.Schedule.{Schedule}
@@ -48,9 +45,8 @@ NamesArePlain =
     (text : List ℕ) (tokens : Tokens) (f : File) → IsAccepted text tokens f → (place : ℕ) (s : Site) → slice_get (sites_of f) place ≡ Some s →
     IsPlain s (name_of s.layer.name.text s.obligation)
 
--- The text of a schedule that an environment names and that violates its obligation, replayed for a file that a text is, ends as refuted, and shows the
--- obligation's name.
+-- The text of a schedule that violates its obligation, replayed for a file that a text is, ends as refuted, and shows the obligation's name.
 abbrev pub PrintedShows : Type 0
 PrintedShows =
-    (text : List ℕ) (tokens : Tokens) (f : File) → IsAccepted text tokens f → (kinds : List RuleKind) (terms : SymFunctions) (inputs : Inputs)
-    (place : ℕ) (x : Schedule) → IsViolating kinds terms f inputs place x → Replaying f (text_of f x) Refuted (shows_line x.name)
+    (text : List ℕ) (tokens : Tokens) (f : File) → IsAccepted text tokens f → (place : ℕ) (x : Schedule) → IsViolating f place x →
+    Replaying f (text_of f x) Refuted (shows_line x.name)

@@ -27,7 +27,7 @@ pub fn names_are_plain()
     ensures { NamesArePlain }
 {}
 
-/// The text of a schedule that an environment names and that violates its obligation ends, replayed, as refuted, and shows the obligation's name.
+/// The text of a schedule that fits its obligation and violates it ends, replayed, as refuted, and shows the obligation's name.
 pub fn printed_shows()
     ensures { PrintedShows }
 {}

@@ -86,11 +86,11 @@ module _ (kinds : List RuleKind) (f : File) (budget : ℕ) (p : Proper f) (q : O
       IsDecision kinds f budget o.name status text
   found_fails env last status text kept e s t =
       let z : IsZeroAt nodes all place env = record { obligation = o; there = there; zero = kept } in
-      let same : e.named.claim ≡ it.claim = same_claim (slice_get cs place) e.named.claim it.claim e.named.there it.stands in
+      let same : e.fitted.claim ≡ it.claim = same_claim (slice_get cs place) e.fitted.claim it.claim e.fitted.claim_there it.stands in
       let is_true : IsViolation it.claim e.schedule =
       subst (λ (c : Claim). IsViolation c e.schedule) same
       (violating kinds f budget p q bank all terms_are names_are mean o.name last place env z e) in
-      let named : o.name ≡ claim_name e.named.claim = sym it.named ∙ ap claim_name (sym same) in
+      let named : o.name ≡ claim_name e.fitted.claim = sym it.named ∙ ap claim_name (sym same) in
       let printed : last ≡ refutation f (claim_name it.claim) e.schedule =
       e.text_is ∙ ap (λ (n : List ℕ). refutation f n e.schedule) (sym it.named) in
       let refuted : IsRefutation f cs last = refutes kinds f budget p q bank all terms_are names_are mean o.name last place env z e named in

@@ -62,7 +62,7 @@ use Rattle.ygg_oblige_reading.specs.ygg_sched.Printing.{text_of}
 use Rattle.ygg_yard.specs.ygg_meaning.Stack.{layers_of}
 use Rattle.ygg_yard.specs.ygg_meaning.Obligations as meaning
 use Rattle.ygg_certify.specs.ygg_sym_laws.Means.{terms_of}
-use Rattle.ygg_oblige_reading.specs.Meant.{IsMadeIn}
+use Rattle.ygg_sched_names.proofs.Asked.{asked_name}
 use Rattle.ygg_sched_names.specs.ObligeSchedulesLaws.{AllExact}
 use Rattle.ygg_sched_names.specs.Schedules.{all_schedules}
 use Rattle.ygg_sched_names.specs.ygg_replay.Shown.{meant}
@@ -346,34 +346,40 @@ module _ (kinds : List RuleKind) (f : File) (budget : ℕ) (p : Proper f) (q : O
 
   -- the schedule that is printed of an obligation whose term is 0 in an environment
   module _ (name text : List ℕ) (place : ℕ) (env : List Given) (z : IsZeroAt nodes all place env) (e : IsRefutingBy kinds f name place env text) where
-    violated : ClaimViolated e.named.claim (meant e.named.claim e.schedule)
-    violated = shown place env z e.named.claim (meant e.named.claim e.schedule) e.named.there e.named.names
+    -- the obligation
+    abbrev pub claim : Claim
+    claim = e.fitted.claim
 
-    pub violating : IsViolation e.named.claim e.schedule
-    violating = record { name = e.named.name; violated = violated }
+    violated : ClaimViolated claim (meant claim e.schedule)
+    violated = let v = e.violates in v.violates claim e.fitted.claim_there (shown place env z claim v.named e.fitted.claim_there v.is_named)
+
+    -- its name
+    pub called : e.schedule.name ≡ claim_name claim
+    called = e.fitted.name ∙ ap asked_name e.fitted.asked
+
+    pub violating : IsViolation claim e.schedule
+    violating = record { name = called; violated = violated }
 
     -- it is shown by `replay`
-    again : IsShownAgain f (claim_name e.named.claim) (text_of f e.schedule)
+    again : IsShownAgain f (claim_name claim) (text_of f e.schedule)
     again =
-        let n = e.named in
         let x = e.schedule in
-        shown_again f (claim_name n.claim) (text_of f x) q.one_ending
-        (λ bytes tokens accepted. subst (λ (title : List ℕ). Replaying f (text_of f x) Refuted (shows_line title)) n.name
-        (q.printed bytes tokens f accepted kinds (terms_of kinds f.defs) (inputs_of env) place x (record {
-          claim = n.claim;
-          there = n.there;
-          name = n.name;
-          names = n.names;
+        shown_again f (claim_name claim) (text_of f x) q.one_ending
+        (λ bytes tokens accepted. subst (λ (title : List ℕ). Replaying f (text_of f x) Refuted (shows_line title)) called
+        (q.printed bytes tokens f accepted place x (record {
+          claim = claim;
+          there = e.fitted.claim_there;
+          fitted = e.fitted;
           bounded = e.bounded;
           violated = violated;
         })))
 
     -- and is what is printed of a refutation
-    pub refutes : name ≡ claim_name e.named.claim → IsRefutation f cs text
+    pub refutes : name ≡ claim_name e.fitted.claim → IsRefutation f cs text
     refutes named = record {
       place = place;
-      claim = e.named.claim;
-      there = e.named.there;
+      claim = e.fitted.claim;
+      there = e.fitted.claim_there;
       schedule = e.schedule;
       violating = violating;
       text_is = e.text_is ∙ ap (λ (title : List ℕ). refutation f title e.schedule) named;
@@ -480,18 +486,18 @@ module _ (kinds : List RuleKind) (f : File) (budget : ℕ) (p : Proper f) (q : O
       name = get_or names k.place []
 
       -- the name is that of the obligation
-      name_is : name ≡ claim_name e.named.claim
-      name_is = ap (λ (ns : List (List ℕ)). get_or ns k.place []) names_are ∙ named_at cs k.place e.named.claim e.named.there
+      name_is : name ≡ claim_name e.fitted.claim
+      name_is = ap (λ (ns : List (List ℕ)). get_or ns k.place []) names_are ∙ named_at cs k.place e.fitted.claim e.fitted.claim_there
 
       some_ended : (status : Status) → status ≡ status_of summary → Ended status (found_lines names vs ++ text)
       some_ended status s =
-          let n = e.named in
           let x = e.schedule in
           let violates : ViolatesFirst nodes budget bank f x cs vs =
           λ place c failed there.
           let same = same_place (first_failed vs) k.place place kept.0 failed in
-          let here : slice_get cs place ≡ Some n.claim = subst (λ m. slice_get cs m ≡ Some n.claim) same n.there in
-          subst (λ (d : Claim). IsViolation d x) (same_claim (slice_get cs place) n.claim c here there)
+          let own = e.fitted.claim in
+          let here : slice_get cs place ≡ Some own = subst (λ m. slice_get cs m ≡ Some own) same e.fitted.claim_there in
+          subst (λ (d : Claim). IsViolation d x) (same_claim (slice_get cs place) own c here there)
           (violating name text k.place k.env kept.1 e) in
           let first = first_whole nodes budget bank f x cs (terms_in all) vs mean writes r.are each violates in
           let w = first.all in
@@ -590,21 +596,6 @@ made_in kinds f nodes made all same bank is terms placed = record {
   terms_are = ap terms_in is ∙ terms;
   placed = subst ArePlaced (sym is) placed;
 }
-
--- one of them
-pub one_made : (kinds : List RuleKind) (f : File) (nodes : List Node) (all : List Obligation) → AreMadeIn kinds f nodes all →
-    length all ≡ length (claims_of f) → (place : ℕ) (o : Obligation) → slice_get all place ≡ Some o → IsMadeIn kinds f nodes o
-one_made kinds f nodes all made each place o there =
-    let at : o.place ≡ place = made.placed place o there in
-    let within = slice_get_within all place o there in
-    let term : slice_get (terms_in all) place ≡ Some o.term =
-    slice_get-map (λ (x : Obligation). x.term) all place ∙ ap (option_map (λ (x : Obligation). x.term)) there in
-    record {
-      bank = made.bank;
-      nodes_are = made.nodes_are;
-      there = omega (arith, at, within, each);
-      made = ap (λ (k : ℕ). slice_get (file_made kinds f []).value k) at ∙ ap (λ (ts : List Id). slice_get ts place) (sym made.terms_are) ∙ term;
-    }
 
 -- there are as many obligations as the file has
 pub as_many : (cs : List Claim) (made all : List Obligation) → all ≡ made → names_in made ≡ names_of cs → length all ≡ length cs

@@ -48,7 +48,8 @@ use Rattle.ygg_oblige_reading.specs.Obligations.{ArePlaced}
 pub use Rattle.ygg_oblige_reading.specs.Obligations.{terms_in, names_in}
 use Rattle.ygg_certify.specs.ygg_oblige_laws.Terms.{file_made}
 pub use Rattle.ygg_oblige_reading.specs.Meant.{FitsTerms, Init}
-use Rattle.ygg_oblige_reading.specs.Meant.{IsNamed}
+use Rattle.ygg_plain.specs.Fitted.{IsFitted}
+use Rattle.ygg_plain.specs.Plain.{ViolatesAsNamed}
 pub use Rattle.ygg_oblige_reading.specs.Obligation.{Obligation}
 use Rattle.ygg_top.specs.declared.verdict.Refutation.{Refutation}
 use Rattle.ygg_top.specs.declared.verdict.Summary.{Summary}
@@ -160,11 +161,13 @@ pub record AreMadeIn (kinds : List RuleKind) (f : File) (nodes : List Node) (all
   pub terms_are : terms_in all ≡ (file_made kinds f []).value
   pub placed : ArePlaced all
 
--- what is printed of the obligation of this name at the place that an environment refutes: the line, and the text of the schedule that the environment names
+-- What is printed of the obligation of this name at the place that an environment refutes: the line, and the text of a schedule that fits the obligation, and
+-- violates it where the one that the environment names does.
 pub record IsRefutingBy (kinds : List RuleKind) (f : File) (name : List ℕ) (place : ℕ) (env : List Given) (text : List ℕ) : Type 0 where
   pub schedule : Schedule
-  pub named : IsNamed kinds f (inputs_of env) place schedule
+  pub fitted : IsFitted f place schedule
   pub bounded : IfSome schedule.stop (λ h. h.event < 2 ^ 64)
+  pub violates : ViolatesAsNamed kinds f (inputs_of env) place schedule
   pub text_is : text ≡ refutation f name schedule
 
 -- what is printed of a refutation of one of a file's obligations of these names

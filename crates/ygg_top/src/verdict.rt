@@ -26,7 +26,8 @@ use crate::finding::{Decision, report};
 use std::alloc::Global;
 use ygg_base::{NoMemory, Sink, Status, Text};
 use ygg_certify::{Bank, Env};
-use ygg_oblige_reading::{Book, Obligation, obligations, schedule, schedule_at};
+use ygg_oblige_reading::{Book, Obligation, obligations};
+use ygg_plain::plain_at;
 use ygg_sched::{Schedule, print_schedule};
 use ygg_sched_names::{file_schedules, one_ending, printed_shows};
 use ygg_top_command::{Verdict, put_all, refuted, undecided, verified};
@@ -126,8 +127,8 @@ fn refuted_with(
     Ok(text)
 }
 
-/// What is printed of the obligation of a name and a place that fails: its line, and the text of the schedule that the environment names. Its only error
-/// is out of memory.
+/// What is printed of the obligation of a name and a place that fails: its line, and the text of a plain schedule in place of the one that the environment
+/// names. Its only error is out of memory.
 pub fn refuted_by<B: Book>(
     alloc: Global,
     typed: &Typed,
@@ -140,29 +141,33 @@ pub fn refuted_by<B: Book>(
     requires fit { FitsTerms (B.kinds rules.now) typed.now.file (inputs_of env.now) }
     ensures { IfOk result (IsRefutingBy (B.kinds rules.now) typed.now.file name.now place env.now) }
 {
-    let named = schedule_at(alloc, typed, place, env, rules)?;
-    refuted_with(alloc, typed, name, &named)
+    let schedule = plain_at(alloc, typed, place, env, rules)?;
+    refuted_with(alloc, typed, name, &schedule)
 }
 
-/// What is printed of an obligation of a list that fails, the terms of which are in a bank. Its only error is out of memory.
+/// What is printed of an obligation of a list that fails. Its only error is out of memory.
 fn refuting<B: Book>(
     alloc: Global,
     typed: &Typed,
     rules: &B,
     all: &[Obligation],
-    bank: &Bank,
     refuted_at: &Refutation,
 ) -> Result<Text, NoMemory>
     requires each { length all.now ≡ length (claims_of typed.now.file) }
-    requires made { AreMadeIn (B.kinds rules.now) typed.now.file bank.now all.now }
     requires there { refuted_at.now.place < length all.now }
     requires fit { IsFitting (B.kinds rules.now) typed.now.file refuted_at.now }
     ensures { IfOk result (IsRefuting (B.kinds rules.now) typed.now.file (names_in all.now) refuted_at.now) }
 {
     let place = refuted_at.place;
     let obligation = &all[place];
-    let named = schedule(alloc, typed, obligation, bank, &refuted_at.env, rules)?;
-    refuted_with(alloc, typed, &obligation.name, &named)
+    refuted_by(
+        alloc,
+        typed,
+        rules,
+        &obligation.name,
+        place,
+        &refuted_at.env,
+    )
 }
 
 /// What is printed after the lines of the verdicts, and the status that goes with it. Its only error is out of memory.
@@ -171,18 +176,16 @@ fn last_lines<B: Book>(
     typed: &Typed,
     rules: &B,
     all: &[Obligation],
-    bank: &Bank,
     summary: &Summary,
 ) -> Result<(Status, Text), NoMemory>
     requires each { length all.now ≡ length (claims_of typed.now.file) }
-    requires made { AreMadeIn (B.kinds rules.now) typed.now.file bank.now all.now }
     requires there { IfSome summary.now.refuted (λ r. r.place < length all.now) }
     requires fit { IfSome summary.now.refuted (IsFitting (B.kinds rules.now) typed.now.file) }
     ensures { IfOk result (λ end. IsEnd (B.kinds rules.now) typed.now.file (names_in all.now) summary.now end.0 end.1) }
 {
     let status = status_by(summary.refuted.is_some(), summary.spent);
     if let Some(refuted_at) = &summary.refuted {
-        let text = refuting(alloc, typed, rules, all, bank, refuted_at)?;
+        let text = refuting(alloc, typed, rules, all, refuted_at)?;
         return Ok((status, text));
     }
     if summary.spent {
@@ -213,7 +216,7 @@ fn report_file<B: Book, K: Sink>(
         Ok(summary) => summary,
         Err(status) => return status,
     };
-    match last_lines(alloc, typed, rules, all, bank, &summary) {
+    match last_lines(alloc, typed, rules, all, &summary) {
         Ok((status, text)) => put_all(sink, text.as_slice(), status),
         Err(_) => Status::NoMemory,
     }

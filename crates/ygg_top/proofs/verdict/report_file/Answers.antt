@@ -1,17 +1,10 @@
-use Rattle.std.proofs.Common.{List, sym, subst}
-use Rattle.ygg_certify.specs.ygg_bank.declared.node.Node.{Node}
-use Rattle.ygg_top.specs.Findings.{AreMadeIn, first_failed}
+use Rattle.ygg_top.specs.Findings.{first_failed}
 use Rattle.ygg_top.proofs.Reporting.{kept_there, kept_fits, put_end, no_end}
 use Rattle.ygg_top.proofs.verdict.report_file.Goals as goal
 
 pub last_lines-requires-clause-there : goal.last_lines-requires-clause-there
 last_lines-requires-clause-there g c =
     let r = c.in-Ok.ensures.reported in kept_there c.args.bank.now c.args.all.now (first_failed r.found) c.in-Ok.summary.refuted r.failed
-
-pub last_lines-requires-clause-made : goal.last_lines-requires-clause-made
-last_lines-requires-clause-made g c =
-    subst (λ (nodes : List Node). AreMadeIn (g.B.Book.kinds c.args.rules.now) c.args.typed.now.file nodes c.args.all.now) (sym c.report_all.ensures.same)
-    c.requires.made
 
 pub last_lines-requires-clause-fit : goal.last_lines-requires-clause-fit
 last_lines-requires-clause-fit g c =

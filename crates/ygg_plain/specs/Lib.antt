@@ -1,0 +1,3 @@
+pub use Rattle.ygg_oblige_schedule.specs.Fitted
+pub mod Like
+pub mod Plain
