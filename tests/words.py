@@ -90,6 +90,16 @@ def texts():
     yield ["solve", "cnf"], {"cnf": "p cnf 1 1\n1 0 1 0\n"}, "63 2:5", ["more clauses than the header says"]
 
 
+def misnamed():
+    """Words that name no obligation of a file: the nearest name is told, and of how many."""
+    for name, word, count, near in (("pair", "cut.put", 7, "pair.cut.put"), ("pair", "pair.cal.gte", 7, "pair.call.get"), ("pair", "pear.idel", 7, "pair.idle"),
+                                    ("flag", "again", 5, "flag.again"), ("collector", "store.cuttic.collect", 9, "store.cuttick.collect"),
+                                    ("ledger", "ledger.int", 21, "ledger.init"), ("accounts", "a" * 300, 0, None)):
+        text = (TOP / "examples" / f"{name}.ygg").read_text()
+        hint = f'of its {count} the nearest is "{near}"; ' if near else ""
+        yield ["decide", "file", word], {"file": text}, "74 0:2", [f"no obligation of this name; {hint}ygg verify FILE 1 lists the names"]
+
+
 def words():
     """Cases of words that are refused."""
     files = {"file": PAIR, "other": PAIR}
@@ -103,8 +113,8 @@ def words():
     yield ["verify", "nope.ygg"], files, "73 0:1", ['ygg: "nope.ygg": no such file']
     yield ["verify", "file", "other"], files, "72 0:2", ["the second word is a budget, a number from 1 to 10000000", '"other" is none']
     yield ["demo", "65"], files, "72 0:1", ["from 1 to 64"]
-    yield ["cnf", "file", "cut.put"], files, "74 0:2", ["no obligation of this name", "ygg verify FILE 1 lists the names"]
-    yield ["decide", "file", "cut.put"], files, "74 0:2", ["no obligation of this name", "ygg verify FILE 1 lists the names"]
+    yield ["cnf", "file", "cut.put"], files, "74 0:2", ["no obligation of this name", 'of its 7 the nearest is "pair.cut.put"; ygg verify FILE 1 lists the names']
+    yield from misnamed()
     yield ["decide", "file"], files, "71 0:0", ["decide takes other words", "ygg decide FILE OBLIGATION [BUDGET]"]
     yield ["verify", "file"], {"file": " " * 1048577}, "11 0:1", ['"file": the file is too large', "1048576"]
 

@@ -8,6 +8,7 @@ mod heard;
 mod hint;
 mod layer_hint;
 mod meanings;
+mod names;
 mod place;
 mod refusal;
 mod spent;

@@ -3,6 +3,7 @@
 use crate::excerpt::excerpt;
 use crate::hint::hint;
 use crate::meanings::meaning;
+use crate::names::nearest_name;
 use crate::place::line_of;
 use crate::usage::{asks_help, call_of, no_command};
 use crate::words::word_at;
@@ -65,8 +66,26 @@ fn word_hint(number: u8) -> &'static str {
     }
 }
 
+/// What is said of a word by the text of the file that it is sought in, where that could be read again.
+fn sought(
+    alloc: Global,
+    number: u8,
+    word: &str,
+    text: Option<&[u8]>,
+) -> Result<String, AllocError> {
+    match text {
+        Some(text) if number == 74 => nearest_name(alloc, text, word),
+        _ => format!(in alloc; ""),
+    }
+}
+
 /// What is said where a word is refused, at its place.
-fn word_message(alloc: Global, words: &[Text], refusal: Refusal) -> Result<String, AllocError> {
+fn word_message(
+    alloc: Global,
+    words: &[Text],
+    refusal: Refusal,
+    text: Option<&[u8]>,
+) -> Result<String, AllocError> {
     let command = word_at(words, 0);
     let word = word_at(words, refusal.column as usize);
     if refusal.number == 71 {
@@ -82,10 +101,11 @@ fn word_message(alloc: Global, words: &[Text], refusal: Refusal) -> Result<Strin
     let meaning = meaning(refusal.number);
     let hint = word_hint(refusal.number);
     let colon = if hint.is_empty() { "" } else { "; " };
-    format!(in alloc; "ygg: \"{word}\": {meaning}{colon}{hint}\n")
+    let near = sought(alloc, refusal.number, word, text)?;
+    format!(in alloc; "ygg: \"{word}\": {meaning}{colon}{near}{hint}\n")
 }
 
-/// What is said of a refusal. The text is of the file in which something is refused, where it could be read again.
+/// What is said of a refusal. The text is of the file in which something is refused or sought, where it could be read again.
 pub fn refusal_message(
     alloc: Global,
     words: &[Text],
@@ -93,7 +113,7 @@ pub fn refusal_message(
     text: Option<&[u8]>,
 ) -> Result<String, AllocError> {
     if refusal.line == 0 {
-        return word_message(alloc, words, refusal);
+        return word_message(alloc, words, refusal, text);
     }
     let name = word_at(words, file_place(words, refusal));
     let Refusal {

@@ -42,7 +42,7 @@ fn refused(
     let Some(refusal) = refusal_in(last) else {
         return format!(in alloc; "");
     };
-    let text = if refusal.line == 0 {
+    let text = if refusal.line == 0 && refusal.number != 74 {
         None
     } else {
         read_again(rt, words.get(file_place(words, refusal)), library)

@@ -8,7 +8,7 @@ use ygg_lex::tokens;
 const MOST_BYTES: usize = 1_048_576;
 
 /// The tokens of a layer file.
-fn tokens_in(alloc: Global, text: &[u8]) -> Option<Tokens> {
+pub fn tokens_in(alloc: Global, text: &[u8]) -> Option<Tokens> {
     if text.len() > MOST_BYTES {
         return None;
     }
@@ -26,7 +26,7 @@ fn is_symbol(all: &[Token], place: usize, wanted: Symbol) -> bool {
 }
 
 /// The name that is the token at a place.
-fn name_at(all: &[Token], place: usize) -> Option<&[u8]> {
+pub fn name_at(all: &[Token], place: usize) -> Option<&[u8]> {
     match all.get(place) {
         Some(
             Token {
