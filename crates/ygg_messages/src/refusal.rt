@@ -3,13 +3,12 @@
 use crate::excerpt::excerpt;
 use crate::hint::hint;
 use crate::meanings::meaning;
-use crate::names::nearest_name;
-use crate::place::line_of;
 use crate::usage::{asks_help, call_of, no_command};
 use crate::words::word_at;
 use std::alloc::{AllocError, Global};
 use std::str;
 use ygg_base::{Refusal, Text};
+use ygg_messages_text::{line_of, nearest_name};
 
 /// The refusal that a line `refused NUMBER LINE:COLUMN` tells, where it is one.
 pub fn refusal_in(line: &[u8]) -> Option<Refusal> {
@@ -53,14 +52,15 @@ fn no_number(alloc: Global, words: &[Text], word: &str) -> Result<String, AllocE
     )
 }
 
-/// What more is said of a word that is refused.
-fn word_hint(number: u8) -> &'static str {
+/// What more is said of a word that is refused, at its place among a command's words.
+fn word_hint(command: &str, number: u8, place: u32) -> &'static str {
     match number {
         11 =>
             "a layer file, a schedule and a script have at most 1048576 bytes, a certificate and clauses 67108864",
         51 => "ygg format FILE IMAGE formats it",
         52 => "it was formatted for another layer file, or cut off",
         53 => "something else than ygg changed it, or it is damaged",
+        73 if command == "run" && place == 3 => "ygg format FILE IMAGE makes one",
         74 => "ygg verify FILE 1 lists the names",
         _ => "",
     }
@@ -99,7 +99,7 @@ fn word_message(
         return no_number(alloc, words, word);
     }
     let meaning = meaning(refusal.number);
-    let hint = word_hint(refusal.number);
+    let hint = word_hint(command, refusal.number, refusal.column);
     let colon = if hint.is_empty() { "" } else { "; " };
     let near = sought(alloc, refusal.number, word, text)?;
     format!(in alloc; "ygg: \"{word}\": {meaning}{colon}{near}{hint}\n")

@@ -15,7 +15,7 @@ use ygg_outside::{FileDevice, FileLibrary, OutSink};
 const MOST_BYTES: u64 = 67_108_864;
 
 /// What stands under a name, where that is a regular file, which can be read twice.
-fn read_again(
+pub fn read_again(
     rt: &HostRuntime,
     name: Option<&Text>,
     library: &mut FileLibrary<'_>,

@@ -1,6 +1,6 @@
 //! The names of a file's obligations, and the one that a word is nearest to.
 
-use crate::types::{name_at, tokens_in};
+use crate::tokens::{name_at, tokens_in};
 use std::alloc::{AllocError, Global};
 use std::str;
 use strsim::osa_distance;
@@ -18,13 +18,17 @@ struct Met {
 }
 
 impl Met {
-    /// Meets the name of an obligation.
+    /// Meets the name of an obligation. One that ends with the word is the nearest: often the layer is left out.
     fn meet(&mut self, alloc: Global, word: &str, name: String) -> Result<(), AllocError> {
         self.count = self.count.saturating_add(1);
         if name.len() > LONGEST {
             return Ok(());
         }
-        let slips = osa_distance(alloc, word, name.as_str())?;
+        let slips = if name.as_str().ends_with(word) {
+            0
+        } else {
+            osa_distance(alloc, word, name.as_str())?
+        };
         if slips < self.least {
             self.least = slips;
             self.nearest = name;
