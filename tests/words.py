@@ -45,10 +45,91 @@ def refused_files():
     yield line(11, "    x = 300:8;"), "6 11:9", ["300 doesn't fit in 8 bits"]
     yield line(11, "    x = (a + 1:4);"), "6 11:12", ["on the left is word 8, on the right word 4"]
     yield line(14, "    call write(1:8, a);"), "7 14:21", ["types differ", "write wants row 1 of 8 here, and this is word 8", "row(v) a row of a word"]
-    yield line(11, "    x = row(a);"), "7 11:9", ["x is word 8, and this is a row"]
+    yield line(11, "    x = row(a);"), "7 11:9", ["x is word 8, and this is row 1 of 8"]
     yield line(29, "    return r;"), "7 29:12", ["the answer is word 8, and this is row 1 of 8", "r[0:1] is a word of a row"]
     yield line(14, "    call write(1:8);"), "7 14:10", ["write takes word 8 (a disk address) and row 1 of 8"]
     yield line(6, "disk async 500 of 1 of 8;"), "8 6:12", ["a number out of its range [8]", "a disk has 1 to 256 rows"]
+
+
+STACK = """yggdrasil 1;
+disk async 4 of 2 of 8;
+def next(n : word 8) -> word 8 = (n + 1:8);
+layer base {
+  state x : word 8;
+  state t : table 4 of 2 of 8;
+  op get() -> word 8 spec {
+    return x;
+  } impl {
+    let r = call read(0:8);
+    return r[0:1];
+  }
+  op put(v : word 8, w : row 2 of 8) spec {
+    x = v;
+  } impl {
+  }
+  relate 1:1;
+}
+layer top {
+  state b : word 1;
+  state r : row 2 of 8;
+  memory m : word 8;
+  op go(a : word 8) spec {
+  } impl {
+IMPL
+  }
+RELATE
+}
+"""
+
+
+def mistyped():
+    """Statements of an implementation and lines of a relation whose types don't fit, each with its refusal and both types: they follow from declarations."""
+    stated = (("let v = call get(); m = row(v);", "7 25:25", "m is word 8, and this is row 1 of 8"),
+              ("let v = call get(); if v { }", "6 25:24", "a condition is a bit (word 1), and this is word 8"),
+              ("let k = call get(); let v = k; m = fill(3, v);", "7 25:36", "m is word 8, and this is row 3 of 8"),
+              ("call put(m, row(m));", "7 25:13", "put wants row 2 of 8 here, and this is row 1 of 8"),
+              ("let v = call put(m, row(m, m));", "7 25:14", "put has no answer"),
+              ("call put(m);", "7 25:6", "put takes word 8 and row 2 of 8"),
+              ("let v = call get(m);", "7 25:14", "get takes no arguments"),
+              ("m = next(1:4);", "6 25:10", "next wants word 8 here, and this is word 4"),
+              ("m = next(m, m);", "7 25:5", "next takes word 8"),
+              ("m = (next(m) == m);", "6 25:5", "m is word 8, and this is word 1"),
+              ("let q = row(m, a); m = q;", "7 25:24", "m is word 8, and this is row 2 of 8"),
+              ("let q = row(m, a); q[0:1] = (a < m);", "6 25:29", "that part of q is word 8, and this is word 1"),
+              ("for i:4 below 9 { m = i; }", "6 25:23", "m is word 8, and this is word 4"),
+              ("m[0:1] = m;", "7 25:2", "what stands before the index is word 8, which has no parts"),
+              ("m = resize(row(m), 8);", "7 25:12", "resize takes a word, and this is row 1 of 8"),
+              ("m = call get() + m;", "3 25:16", "expected `;`"))
+    related = (("(low.t == b)", "7 27:15", "on the left is table 4 of 2 of 8, on the right word 1"),
+               ("low.x", "6 27:8", "what is to hold is a bit (word 1), and this is word 8"),
+               ("(low.t[0:8] == r[0:1])", "7 27:20", "on the left is row 2 of 8, on the right word 8"),
+               ("(pick(b, low.x, r) == r)", "7 27:24", "both values of pick have one type: here word 8, and this is row 2 of 8"),
+               ("(pick(m, low.x, m) == m)", "6 27:14", "what pick tests is a bit (word 1), and this is word 8"),
+               ("(row(low.x, b) == r)", "6 27:20", "a row's words have one width: here word 8, and this is word 1"),
+               ("(low.x => b)", "6 27:15", "on the left is word 8, on the right word 1"),
+               ("((low.x + m) == row(m, m))", "7 27:21", "on the left is word 8, on the right row 2 of 8"),
+               ("all(i:2 below 4, low.t[i])", "7 27:25", "what is said of each number is a bit (word 1), and this is row 2 of 8"),
+               ("(~r == r)", "7 27:10", "`~` takes a word, and this is row 2 of 8"),
+               ("(r[r] == low.x)", "7 27:11", "an index is a word, and this is row 2 of 8"),
+               ("(low.x[0:1] == m)", "7 27:14", "what stands before the index is word 8, which has no parts"),
+               ("(0:65 == low.x)", "6 27:11", "a word has 1 to 64 bits"))
+    for text, refusal, told in stated:
+        yield STACK.replace("IMPL", text).replace("RELATE", "relate 1:1;"), refusal, [told]
+    for text, refusal, told in related:
+        yield STACK.replace("IMPL", "").replace("RELATE", f"relate {text};"), refusal, [told]
+
+
+def unexpected():
+    """Texts with a token with which no file goes on, each with its refusal and what may stand there."""
+    yield line(6, "disk async of 1 of 8;"), "3 6:12", ["expected a number\n"]
+    yield line(6, "disk ram 5 of 1 of 8;"), "3 6:6", ["expected `sync` or `async`\n"]
+    yield line(8, "  state x : byte 8;"), "3 8:13", ["expected a type\n"]
+    yield line(11, "    let = a;"), "3 11:9", ["expected a name"]
+    yield line(26, "    return ;"), "3 26:12", ["expected an expression\n"]
+    yield line(33, "    if c[0:1] == 1:8 {"), "3 33:15", ["expected `{` or `[`; each operator has brackets of its own"]
+    yield line(11, "    x = (a b);"), "3 11:12", ["expected an operator, `(` or `[`"]
+    yield PAIR.rstrip("}\n") + "\n", "3 45:1", ["expected `settled`, `maybe` or `}`; the file ends too early"]
+    yield "", "3 1:1", ["expected `yggdrasil`"]
 
 
 def refused_layers():
@@ -60,7 +141,7 @@ def refused_layers():
 
 def texts():
     """Cases of texts that are refused: the words, the files, the refusal, and what is told."""
-    for text, refusal, told in (*refused_files(), *refused_layers()):
+    for text, refusal, told in (*refused_files(), *mistyped(), *unexpected(), *refused_layers()):
         yield ["verify", "file"], {"file": text}, refusal, told
     script = lambda text: {"file": PAIR, "script": text}
     play = ["play", "file", "script"]
@@ -71,11 +152,20 @@ def texts():
     yield play, script("ygg-script 1\ncall took 0\nend\n"), "42 2:1", ["the topmost layer has no such operation"]
     yield play, script("ygg-script 1\ncall put FF 01\nend\n"), "43 2:1", ["small letters: ff and not FF"]
     yield play, script("ygg-script 1\ncall put 0x01 01\nend\n"), "43 2:1", ["no 0x"]
-    yield play, script("ygg-script 1\ncall get 0\nfail before 7\nend\n"), "44 3:1", ["fewer disk calls", "ygg play without this line"]
+    yield play, script("ygg-schedule 1\nend\n"), "41 1:1", ["this is a schedule, which replay takes"]
+    yield play, script(PAIR), "41 1:1", ["a script begins with the line ygg-script 1"]
+    yield play, script("ygg-script 1\nget 0\nend\n"), "41 2:1", ["lines are: call OPERATION VALUES, tick LAYER.NAME"]
+    yield play, script("ygg-script 1\nlost\nfail 3\nend\n"), "41 3:1", ["fail before N, fail within N"]
+    yield play, script("ygg-script 1\ncall get 0\nfail before 7\nend\n"), "44 3:1", ["fewer disk calls", "the line above does makes 1 disk call: read\n"]
+    again = "ygg-script 1\ncall put 01 02\nfail before 5\nfail before 9\nend\n"
+    yield play, script(again), "44 4:1", ["does makes 8 disk calls: read, read, read, write, write, flush, write, flush\n"]
+    many = "ygg-script 1\ncall get 0\ncall put 01 02\nlost\nfail before 7\nend\n"
+    yield play, script(many), "44 5:1", ["does makes 1 disk call: read\n"]
     replay = ["replay", "file", "schedule"]
     found = lambda text: {"file": PAIR, "schedule": text}
     first = "ygg-schedule 1\nobligation pair.init\n"
     yield replay, found("holds pair.init\n" + first + "end\n"), "31 1:1", ["schedule:1:1:", "sed -n '/^ygg-schedule/,$p'"]
+    yield replay, found("ygg-script 1\nend\n"), "31 1:1", ["this is a script, which play and run take"]
     yield replay, found("ygg-schedule 1\r\n"), "31 1:1", ["a carriage return"]
     yield replay, found("ygg-schedule 1\nobligation pair.get\n"), "32 2:1", ["a schedule of this file"]
     yield replay, found("ygg-schedule 1\nobligation pair.call.get\nstate x 0\u007a\n"), "33 3:1", ["hasn't the shape"]
@@ -88,6 +178,16 @@ def texts():
     yield ["solve", "cnf"], {"cnf": "1 0\n"}, "61 1:1", ["cnf:1:1: no header of clauses"]
     yield ["solve", "cnf"], {"cnf": "p cnf 1 1\n2 0\n"}, "62 2:1", ["no such number"]
     yield ["solve", "cnf"], {"cnf": "p cnf 1 1\n1 0 1 0\n"}, "63 2:5", ["more clauses than the header says"]
+
+
+def misnamed():
+    """Words that name no obligation of a file: the nearest name is told, and of how many."""
+    for name, word, count, near in (("pair", "cut.put", 7, "pair.cut.put"), ("pair", "pair.cal.gte", 7, "pair.call.get"), ("pair", "pear.idel", 7, "pair.idle"),
+                                    ("flag", "again", 5, "flag.again"), ("collector", "store.cuttic.collect", 9, "store.cuttick.collect"),
+                                    ("ledger", "ledger.int", 21, "ledger.init"), ("accounts", "a" * 300, 0, None)):
+        text = (TOP / "examples" / f"{name}.ygg").read_text()
+        hint = f'of its {count} the nearest is "{near}"; ' if near else ""
+        yield ["decide", "file", word], {"file": text}, "74 0:2", [f"no obligation of this name; {hint}ygg verify FILE 1 lists the names"]
 
 
 def words():
@@ -103,8 +203,8 @@ def words():
     yield ["verify", "nope.ygg"], files, "73 0:1", ['ygg: "nope.ygg": no such file']
     yield ["verify", "file", "other"], files, "72 0:2", ["the second word is a budget, a number from 1 to 10000000", '"other" is none']
     yield ["demo", "65"], files, "72 0:1", ["from 1 to 64"]
-    yield ["cnf", "file", "cut.put"], files, "74 0:2", ["no obligation of this name", "ygg verify FILE 1 lists the names"]
-    yield ["decide", "file", "cut.put"], files, "74 0:2", ["no obligation of this name", "ygg verify FILE 1 lists the names"]
+    yield ["cnf", "file", "cut.put"], files, "74 0:2", ['no obligation of this name; of its 7 the nearest is "pair.cut.put"; ygg verify FILE 1 lists the names']
+    yield from misnamed()
     yield ["decide", "file"], files, "71 0:0", ["decide takes other words", "ygg decide FILE OBLIGATION [BUDGET]"]
     yield ["verify", "file"], {"file": " " * 1048577}, "11 0:1", ['"file": the file is too large', "1048576"]
 
@@ -218,7 +318,12 @@ def images(folder):
     (folder.path / "image").write_bytes(whole)
     swapped = folder.asked("run", "file", "image", "cert", "script")
     yield "run with its words swapped", differs(swapped, 2, "refused 21 1:1\n", ["image:1:1: this is no certificate"])
-    yield "run without an image", differs(folder.asked("run", "file", "cert", "none", "script"), 2, "refused 73 0:3\n", ['"none": no such file'])
+    absent = folder.asked("run", "file", "cert", "none", "script")
+    yield "run without an image", differs(absent, 2, "refused 73 0:3\n", ['"none": no such file; ygg format FILE IMAGE makes one'])
+    (folder.path / "failing").write_text("ygg-script 1\ncall put 01 02\nfail before 2\nend\n")
+    failing = folder.asked("run", "file", "cert", "image", "failing")
+    text = "run takes none of these, since on a real disk power fails by itself"
+    yield "run of a script that names a failure", differs(failing, 2, "refused 41 3:1\n", [text])
     (folder.path / "image").chmod(0o444)
     (folder.path / "file").chmod(0o644)
     user = (lambda: os.setuid(65534)) if os.geteuid() == 0 else None
@@ -239,6 +344,12 @@ def spends(folder):
     yield "verify within 1 of what fails too", differs(found, 1, "holds pair.init\n", what)
     found = folder.asked("verify", "swapped")
     yield "verify of what fails, within the usual budget", differs(found, 1, "holds pair.init\n", [])
+    found = folder.asked("certify", "file", "1")
+    what = ["gave up on pair.again (and 1 more) after 1 learned", "Try: ygg certify file 10000000, smaller"]
+    yield "certify within 1", differs(found, 3, "holds pair.init\n", what)
+    found = folder.asked("decide", "file", "pair.again", "1")
+    what = ["gave up on pair.again after 1 learned", "Try: ygg decide file pair.again 10000000, smaller"]
+    yield "decide within 1", differs(found, 3, "spent pair.again 1\n", what)
     (folder.path / "cnf").write_text("p cnf 2 4\n1 2 0\n-1 2 0\n1 -2 0\n-1 -2 0\n")
     found = folder.asked("solve", "cnf", "1")
     yield "solve within 1", differs(found, 3, "undecided\n", ["ygg: gave up after 1 learned clauses", "ygg solve cnf 10000000"])

@@ -1,7 +1,7 @@
 //! A line of a file with a mark below it.
 
-use crate::place::word_of;
 use std::alloc::{AllocError, Global};
+use ygg_messages_text::word_of;
 
 /// So many bytes of a line are shown at most.
 const WIDTH: usize = 120;

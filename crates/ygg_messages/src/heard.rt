@@ -68,6 +68,20 @@ fn bytes_in(text: &Option<Text>) -> &[u8] {
     }
 }
 
+/// How many lines of a text begin with `spent`, and the last of them; a certificate has none.
+fn spent_lines(bytes: &[u8]) -> (u64, &[u8]) {
+    let mut found = (0u64, bytes.get(..0).unwrap_or(&[]));
+    if bytes.starts_with(b"ygg-cert ") {
+        return found;
+    }
+    for line in bytes.split(|byte| *byte == b'\n') {
+        if line.starts_with(b"spent ") {
+            found = (found.0.saturating_add(1), line);
+        }
+    }
+    found
+}
+
 /// A copy of a text that isn't long, where there is memory for it.
 fn copied(alloc: Global, bytes: &[u8]) -> Option<Text> {
     if bytes.len() > MOST {
@@ -84,9 +98,10 @@ impl<K: Sink> Sink for Heard<K> {
     fn put(&mut self, bytes: &[u8]) -> Moved {
         self.last = copied(self.alloc, bytes);
         self.bytes = self.bytes.saturating_add(bytes.len() as u64);
-        if bytes.starts_with(b"spent ") {
-            self.spent = copied(self.alloc, bytes);
-            self.spends = self.spends.saturating_add(1);
+        let (spends, spent) = spent_lines(bytes);
+        if spends > 0 {
+            self.spent = copied(self.alloc, spent);
+            self.spends = self.spends.saturating_add(spends);
         }
         self.sink.put(bytes)
     }

@@ -1,10 +1,9 @@
 //! What may help where something is refused, by its number and what stands there.
 
 use crate::layer_hint::{no_token, not_ascii, not_here};
-use crate::place::{line_before, line_of, parted};
-use crate::types::types_at;
 use std::alloc::{AllocError, Global};
 use ygg_base::Refusal;
+use ygg_messages_text::{line_of, parted, types_at};
 
 /// What may help where a line of a schedule, a script or a certificate is refused.
 fn line_hint(line: &[u8], is_last: bool) -> &'static str {
@@ -31,10 +30,31 @@ fn line_hint(line: &[u8], is_last: bool) -> &'static str {
 
 /// The same of a schedule.
 fn schedule_hint(line: &[u8], number: u32, is_last: bool) -> &'static str {
-    if number == 1 && !line.starts_with(b"ygg-schedule") {
-        return "what verify prints above the line ygg-schedule 1 is cut off: sed -n '/^ygg-schedule/,$p'";
+    if number > 1 || line.starts_with(b"ygg-schedule") {
+        return line_hint(line, is_last);
     }
-    line_hint(line, is_last)
+    if line.starts_with(b"ygg-script") {
+        return "this is a script, which play and run take";
+    }
+    "what verify prints above the line ygg-schedule 1 is cut off: sed -n '/^ygg-schedule/,$p'"
+}
+
+/// The same of a script.
+fn script_hint(line: &[u8], number: u32, is_last: bool) -> &'static str {
+    if number == 1 && line.starts_with(b"ygg-schedule") {
+        return "this is a schedule, which replay takes";
+    }
+    if number == 1 && !line.starts_with(b"ygg-script") {
+        return "a script begins with the line ygg-script 1 and has no comments";
+    }
+    let usual = line_hint(line, is_last);
+    if !usual.is_empty() {
+        return usual;
+    }
+    if line.starts_with(b"lost") || line.starts_with(b"fail") || line.starts_with(b"keep") {
+        return "play takes lost, fail before N, fail within N, keep 0101; run takes none of these, since on a real disk power fails by itself";
+    }
+    "lines are: call OPERATION VALUES, tick LAYER.NAME, and for play also lost, fail, keep"
 }
 
 /// What may help where a value of a script or a schedule is refused.
@@ -67,7 +87,6 @@ fn number_hint(number: u8) -> &'static str {
             "a schedule is of the file that it was printed for; was that changed? then verify it again",
         34 => "was the file cut off? it ends with the line `end`",
         42 => "operations are named as in the file, and background steps LAYER.NAME",
-        44 => "ygg play without this line shows the calls",
         _ => "",
     }
 }
@@ -83,7 +102,7 @@ pub fn hint(alloc: Global, text: &[u8], refusal: Refusal) -> Result<String, Allo
         3 => return not_here(alloc, before, at),
         6 | 7 => return type_hint(alloc, text, refusal),
         31 => schedule_hint(line, refusal.line, is_last),
-        41 => line_hint(line, is_last),
+        41 => script_hint(line, refusal.line, is_last),
         43 => value_hint(line),
         number => number_hint(number),
     };
@@ -93,7 +112,8 @@ pub fn hint(alloc: Global, text: &[u8], refusal: Refusal) -> Result<String, Allo
 /// What may help where a width or a type doesn't fit.
 fn type_hint(alloc: Global, text: &[u8], refusal: Refusal) -> Result<String, AllocError> {
     let usual = number_hint(refusal.number);
-    match types_at(alloc, text, refusal) {
+    let types = types_at(alloc, text, refusal)?;
+    match types {
         Some(types) => format!(in alloc; "{types}; {usual}"),
         None => format!(in alloc; "{usual}"),
     }

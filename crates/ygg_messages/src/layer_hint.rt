@@ -1,7 +1,9 @@
 //! What may be meant where a layer file is refused, by what stands round the place: mostly habits from other languages.
 
-use crate::place::{is_of_word, last_code, line_before, word_of};
 use std::alloc::{AllocError, Global};
+use ygg_messages_text::{
+    goes_on_with, is_of_word, last_code, line_before, wants_semicolon, word_of,
+};
 
 /// What may help where a byte isn't ASCII.
 pub fn not_ascii(at: &[u8]) -> &'static str {
@@ -102,21 +104,18 @@ fn token_hint(line: &[u8], at: &[u8]) -> &'static str {
     ""
 }
 
-/// Whether code that ends so wants a semicolon before what begins in a later line.
-fn wants_semicolon(code: &[u8]) -> bool {
-    match code.last() {
-        Some(last) => is_of_word(*last) || *last == b')' || *last == b']',
-        None => false,
-    }
-}
-
-/// What may help where no file goes on with a token.
+/// What may help where no file goes on with a token: what may stand there, and what may be meant.
 pub fn not_here(alloc: Global, before: &[u8], at: &[u8]) -> Result<String, AllocError> {
-    let (code, number) = last_code(before);
+    let (_, number) = last_code(before);
     let line = line_before(before).trim_ascii();
-    if line.is_empty() && wants_semicolon(code) && !begins_with_one(at, &OPERATORS) {
+    if line.is_empty() && !begins_with_one(at, &OPERATORS) && wants_semicolon(alloc, before)? {
         return format!(in alloc; "expected `;` after line {number}");
     }
+    let expected = goes_on_with(alloc, before)?;
     let hint = token_hint(line, at);
-    format!(in alloc; "{hint}")
+    if expected.is_empty() || hint.is_empty() {
+        let word = if expected.is_empty() { "" } else { "expected " };
+        return format!(in alloc; "{word}{expected}{hint}");
+    }
+    format!(in alloc; "expected {expected}; {hint}")
 }

@@ -2,19 +2,19 @@
 //! system failed. Nothing here is judged: it is told of what the commands have answered.
 #![tactic(auto)]
 
+mod calls;
 mod excerpt;
 mod fault;
 mod heard;
 mod hint;
 mod layer_hint;
 mod meanings;
-mod place;
 mod refusal;
 mod spent;
 mod telling;
-mod types;
 mod usage;
 mod words;
 
+pub use calls::{calls_message, script_before, unreached};
 pub use heard::Heard;
-pub use telling::tell;
+pub use telling::{read_again, tell};

@@ -3,12 +3,12 @@
 use crate::excerpt::excerpt;
 use crate::hint::hint;
 use crate::meanings::meaning;
-use crate::place::line_of;
 use crate::usage::{asks_help, call_of, no_command};
 use crate::words::word_at;
 use std::alloc::{AllocError, Global};
 use std::str;
 use ygg_base::{Refusal, Text};
+use ygg_messages_text::{line_of, nearest_name};
 
 /// The refusal that a line `refused NUMBER LINE:COLUMN` tells, where it is one.
 pub fn refusal_in(line: &[u8]) -> Option<Refusal> {
@@ -52,21 +52,40 @@ fn no_number(alloc: Global, words: &[Text], word: &str) -> Result<String, AllocE
     )
 }
 
-/// What more is said of a word that is refused.
-fn word_hint(number: u8) -> &'static str {
+/// What more is said of a word that is refused, at its place among a command's words.
+fn word_hint(command: &str, number: u8, place: u32) -> &'static str {
     match number {
         11 =>
             "a layer file, a schedule and a script have at most 1048576 bytes, a certificate and clauses 67108864",
         51 => "ygg format FILE IMAGE formats it",
         52 => "it was formatted for another layer file, or cut off",
         53 => "something else than ygg changed it, or it is damaged",
+        73 if command == "run" && place == 3 => "ygg format FILE IMAGE makes one",
         74 => "ygg verify FILE 1 lists the names",
         _ => "",
     }
 }
 
+/// What is said of a word by the text of the file that it is sought in, where that could be read again.
+fn sought(
+    alloc: Global,
+    number: u8,
+    word: &str,
+    text: Option<&[u8]>,
+) -> Result<String, AllocError> {
+    match text {
+        Some(text) if number == 74 => nearest_name(alloc, text, word),
+        _ => format!(in alloc; ""),
+    }
+}
+
 /// What is said where a word is refused, at its place.
-fn word_message(alloc: Global, words: &[Text], refusal: Refusal) -> Result<String, AllocError> {
+fn word_message(
+    alloc: Global,
+    words: &[Text],
+    refusal: Refusal,
+    text: Option<&[u8]>,
+) -> Result<String, AllocError> {
     let command = word_at(words, 0);
     let word = word_at(words, refusal.column as usize);
     if refusal.number == 71 {
@@ -80,12 +99,13 @@ fn word_message(alloc: Global, words: &[Text], refusal: Refusal) -> Result<Strin
         return no_number(alloc, words, word);
     }
     let meaning = meaning(refusal.number);
-    let hint = word_hint(refusal.number);
+    let hint = word_hint(command, refusal.number, refusal.column);
     let colon = if hint.is_empty() { "" } else { "; " };
-    format!(in alloc; "ygg: \"{word}\": {meaning}{colon}{hint}\n")
+    let near = sought(alloc, refusal.number, word, text)?;
+    format!(in alloc; "ygg: \"{word}\": {meaning}{colon}{near}{hint}\n")
 }
 
-/// What is said of a refusal. The text is of the file in which something is refused, where it could be read again.
+/// What is said of a refusal. The text is of the file in which something is refused or sought, where it could be read again.
 pub fn refusal_message(
     alloc: Global,
     words: &[Text],
@@ -93,7 +113,7 @@ pub fn refusal_message(
     text: Option<&[u8]>,
 ) -> Result<String, AllocError> {
     if refusal.line == 0 {
-        return word_message(alloc, words, refusal);
+        return word_message(alloc, words, refusal, text);
     }
     let name = word_at(words, file_place(words, refusal));
     let Refusal {

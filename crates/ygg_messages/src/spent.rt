@@ -22,6 +22,7 @@ fn budget_of(words: &[Text]) -> &str {
 
 /// What is said of the last of so many lines `spent NAME K`.
 fn named(alloc: Global, words: &[Text], line: &str, spends: u64) -> Result<String, AllocError> {
+    let command = word_at(words, 0);
     let file = word_at(words, 1);
     let mut parts = line.split_whitespace().skip(1);
     let name = parts.next().unwrap_or("");
@@ -32,8 +33,10 @@ fn named(alloc: Global, words: &[Text], line: &str, spends: u64) -> Result<Strin
     } else {
         format!(in alloc; " (and {others} more)")?
     };
+    let of = if command == "decide" { name } else { "" };
+    let blank = if command == "decide" { " " } else { "" };
     format!(in alloc;
-        "ygg: gave up on {name}{more} after {count} learned clauses; nothing is known about it. Try: ygg verify {file} 10000000, {TRY}\n"
+        "ygg: gave up on {name}{more} after {count} learned clauses; nothing is known about it. Try: ygg {command} {file}{blank}{of} 10000000, {TRY}\n"
     )
 }
 

@@ -15,7 +15,7 @@ use ygg_outside::{FileDevice, FileLibrary, OutSink};
 const MOST_BYTES: u64 = 67_108_864;
 
 /// What stands under a name, where that is a regular file, which can be read twice.
-fn read_again(
+pub fn read_again(
     rt: &HostRuntime,
     name: Option<&Text>,
     library: &mut FileLibrary<'_>,
@@ -42,7 +42,7 @@ fn refused(
     let Some(refusal) = refusal_in(last) else {
         return format!(in alloc; "");
     };
-    let text = if refusal.line == 0 {
+    let text = if refusal.line == 0 && refusal.number != 74 {
         None
     } else {
         read_again(rt, words.get(file_place(words, refusal)), library)
