@@ -1,8 +1,7 @@
-"""tools/picture: the pages and drawings of the texts of tests/pictures/, and of what `explain` prints of the refuted files of examples/; texts that it doesn't take; and
-how pages look in chromium, where that is installed.
+"""tools/picture: the pages and drawings of the texts of tests/pictures/, texts that it doesn't take, and pages in chromium, where that is installed.
 
-A page is whole HTML, a drawing whole XML; neither names anything that would be loaded, and both have every value of the text. In chromium a page asks for
-nothing but itself and no message comes. What it looks like is kept in build/out/pictures/.
+A page is whole HTML, a drawing whole XML. Neither names anything that would be loaded, neither is too long, and a page has every value of its text. In chromium
+a page asks for nothing but itself and no message comes. What it looks like is kept in build/out/pictures/.
 """
 import base64
 import html.parser
@@ -50,8 +49,9 @@ class Tags(html.parser.HTMLParser):
 
 
 def values_in(text):
-    """The values of a text."""
-    return set(re.findall(r"(?m)(?<= )[0-9a-f]+(?:[,;][0-9a-f]+)*(?= |$)", text))
+    """The values of a text, without the picks of the specification, which are told from one to another."""
+    lines = [line for line in text.splitlines() if not line.startswith("picks ")]
+    return {value for line in lines for value in re.findall(r"(?<= )[0-9a-f]+(?:[,;][0-9a-f]+)*(?= |$)", line)}
 
 
 def unlike_page(page, text):
