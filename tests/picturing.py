@@ -103,7 +103,8 @@ def refused(top, text, *words):
 def edits(text):
     """Texts that aren't taken, each with the number of the line that is said."""
     lines = text.splitlines()
-    place = {word: next(at for at, line in enumerate(lines) if line.startswith(word + " ")) for word in ("obligation", "low", "run", "call", "power", "left", "picks", "false")}
+    words = ("obligation", "low", "run", "call", "power", "left", "picks", "false")
+    place = {word: next(at for at, line in enumerate(lines) if line.startswith(word + " ")) for word in words}
 
     def with_line(at, *new, gone=0):
         return "".join(line + "\n" for line in [*lines[:at], *new, *lines[at + gone:]])
@@ -111,7 +112,8 @@ def edits(text):
     for word, new in [
         ("call", "jump 0 write"), ("call", "call"), ("call", "call x write 0 00"), ("call", "call 0 write 0 0g kept"), ("call", "call 0 write 0 00 kept twice"),
         ("low", "low view"), ("low", "low  view 00"), ("low", "low view 00 "), ("low", "Low view 00"), ("low", ""), ("power", "power after 3"),
-        ("false", "false relate 43:98 02"), ("false", "false relate"), ("false", "false maybe 1:1"), ("false", "false relate 43:98 at 1 02 00"), ("picks", "picks 2"),
+        ("false", "false relate 43:98 02"), ("false", "false relate"), ("false", "false maybe 1:1"), ("false", "false relate 43:98 at 1 02 00"),
+        ("picks", "picks 2"),
         ("obligation", "obligation pair"), ("left", "left view"),
     ]:
         yield new, with_line(place[word], new, gone=1), place[word] + 1
@@ -177,10 +179,10 @@ class Chromium:
 
     def __init__(self, program, folder):
         (child_reads, self.out), (self.into, child_writes) = os.pipe(), os.pipe()
-        words = [program, "--headless=new", "--no-sandbox", "--disable-gpu", "--hide-scrollbars", "--remote-debugging-pipe", "--no-first-run", f"--user-data-dir={folder}"]
-        shell = ["bash", "-c", f'exec "$@" 3<&{child_reads} 4>&{child_writes}', "bash", *words]
-        environment = {**os.environ, "HOME": folder}
-        self.child = subprocess.Popen(shell, stdin=subprocess.DEVNULL, stdout=subprocess.DEVNULL, stderr=subprocess.DEVNULL, pass_fds=(child_reads, child_writes), env=environment)
+        words = ["--headless=new", "--no-sandbox", "--disable-gpu", "--hide-scrollbars", "--no-first-run", "--remote-debugging-pipe"]
+        shell = ["bash", "-c", f'exec "$@" 3<&{child_reads} 4>&{child_writes}', "bash", program, *words, f"--user-data-dir={folder}"]
+        nowhere = dict.fromkeys(("stdin", "stdout", "stderr"), subprocess.DEVNULL)
+        self.child = subprocess.Popen(shell, **nowhere, pass_fds=(child_reads, child_writes), env={**os.environ, "HOME": folder})
         os.close(child_reads)
         os.close(child_writes)
         self.number, self.events, self.rest = 0, [], b""
