@@ -3,22 +3,25 @@
 
 Run as a program it says what is wrong that can be seen without ./ygg, and ends with 1 where something is: links that lead nowhere, parts that
 aren't in a file that the next command names, and a gallery that doesn't say what tests/gallery.txt says. tests/run takes `commands` and
-`fragments` from here, and runs them.
+`fragments` from here, and runs them. With --renew and names of pages it runs their commands itself, by ./ygg or what YGG names, and puts what they print in the place of what stands there.
 
 A block is a run of indented lines. A block whose first line is `$ ./ygg WORD ..` is a command, and the lines below are its output; with `> NAME` at its end
-the output goes to a file that later commands of the page may name. In the pages
+the output goes to a file that later commands of the page may name, also behind `| COMMAND`, of which the status isn't looked at. In the pages
 of SHOWING every other block is a part of a file that the next command names. A fragment stands in a frame of tests/frames.txt: a block below a line that
 ends in ``In `NAME`:`` is typed in that frame, each line by itself where the frame is `relate`; below a line that ends in ``Refused in `NAME`:`` each
 fragment ends with a line that has a mark `^ N` under the token at which N is the refusal. Lines between three backquotes are pictures.
 """
+import os
 import pathlib
 import re
+import subprocess
 import sys
+import tempfile
 
 TOP = pathlib.Path(__file__).resolve().parent.parent
 PAGES = ["README.md", "INSTALL.md", "examples/README.md", *sorted(f"docs/{path.name}" for path in (TOP / "docs").glob("*.md"))]
 SHOWING = ["README.md", "docs/TUTORIAL.md", "docs/RELATIONS.md", "docs/HOW_DO_I_SAY.md"]
-STATUSES = {"holds": 0, "verified": 0, "refuted": 1, "end": 1, "refused": 2, "undecided": 3}
+STATUSES = {"holds": 0, "verified": 0, "refuted": 1, "end": 1, "shows": 1, "refused": 2, "hypothesis": 2, "undecided": 3}
 
 
 def blocks(page):
@@ -126,7 +129,39 @@ def faults():
     yield from untold()
 
 
+def ran(folder, ygg, words, target):
+    """The status and the output of a command that a page shows, run in a folder; with a target the output goes there."""
+    shell = ["bash", "-c", 'ygg=$1; shift; eval "\"\$ygg\" $*"', "bash", ygg, *words] if "|" in words else [ygg, *words]
+    done = subprocess.run(shell, cwd=folder, stdin=subprocess.DEVNULL, capture_output=True, text=True, timeout=600)
+    if target:
+        (folder / target).write_text(done.stdout)
+    return done.returncode, "" if target else done.stdout
+
+
+def prepare(folder):
+    """Puts what commands of pages name into a folder."""
+    for name in ("examples", "tools"):
+        (folder / name).symlink_to(TOP / name)
+
+
+def renew(page):
+    """Puts what the commands of a page print below them."""
+    lines = (TOP / page).read_text().splitlines()
+    with tempfile.TemporaryDirectory() as name:
+        folder, moved = pathlib.Path(name), 0
+        prepare(folder)
+        for number, words, target, output, _ in list(commands(page)):
+            new = ran(folder, os.environ.get("YGG") or str(TOP / "ygg"), words, target)[1].splitlines()
+            lines[number + moved : number + moved + output.count("\n")] = ["    " + line for line in new]
+            moved += len(new) - output.count("\n")
+    (TOP / page).write_text("".join(line + "\n" for line in lines))
+
+
 def main():
+    if sys.argv[1:2] == ["--renew"]:
+        for page in sys.argv[2:]:
+            renew(page)
+        return 0
     found = list(faults())
     for line in found:
         print(line)

@@ -29,6 +29,8 @@ def made(place, top):
     for name in ("completions", "examples"):
         shutil.copytree(top / name, place.top / name, dirs_exist_ok=True)
     shutil.copy(top / "INSTALL.md", place.top)
+    for name in ("picture", "verify-all"):
+        shutil.copy(top / "tools" / name, place.top / "tools")
     place.stand_in("ygg")
     place.write("build/out/ygg", PROGRAM, -30, 0o755)
     place.write("build/program", "#!/bin/sh\nexit 0\n", 0, 0o755)
@@ -57,6 +59,9 @@ def used(archive, folder, top):
     shutil.rmtree(unpacked / "libexec")
     (folder / "ygg").symlink_to(prefix / "bin" / "ygg")
     yield "runs where it was installed, by a link", as_nobody([folder / "ygg", "print", "x"], folder), (0, "program print x\n", "")
+    script = prefix / "bin" / "ygg-verify-all"
+    yield "has ygg-verify-all, which finds the program", as_nobody([script, "x"], folder), (0, "verified 0\n", "\n")
+    yield "has ygg-picture", as_nobody([prefix / "bin" / "ygg-picture", "-"], folder)[::2], (2, "picture: usage: tools/picture [--svg] [--source FILE] < TEXT\n")
     told = "ygg: this program is proved: its proofs were run where the release was made\n"
     yield "says which it is", as_nobody([folder / "ygg", "--version"], folder), (0, "ygg 0.1.0\n", told)
     examples = prefix / "share" / "ygg" / "examples"
