@@ -10,7 +10,7 @@ use Rattle.ygg_shape_cells.specs.Making.{merged_row, written_row, merged_rows, m
 use Rattle.ygg_shape_cells.specs.Making.{selected, selected_within, stored_from, stored}
 use Rattle.ygg_shape_cells.specs.Lists.{each_from}
 use Rattle.ygg_shape_cells.specs.Pruning.{given_row}
-use Rattle.ygg_shape_given.specs.Giving.{given}
+use Rattle.ygg_shape_words.specs.Giving.{given}
 use Rattle.ygg_shape_cells.specs.declared.terms.SymValue.{SymValue}
 use Rattle.ygg_shape_cells.specs.Guarding.{guarded_split, guarded_at, guarded_from, stored_where}
 use Rattle.ygg_shape_cells.proofs.Keeps.{

@@ -14,8 +14,8 @@ use Rattle.ygg_shape_words.specs.ygg_bank.declared.node.Node.TheVariants.{Const,
 use Rattle.ygg_shape_words.proofs.Keeps.{Stays, picked_keeps, same_words_keeps}
 use Rattle.ygg_shape_words.specs.Same.{same_words}
 use Rattle.ygg_shape_words.specs.Picking.{picked}
-use Rattle.ygg_shape_given.proofs.Worth.{given_keeps}
-use Rattle.ygg_shape_given.specs.Giving.{given}
+use Rattle.ygg_shape_words.proofs.Givens.{given_keeps}
+use Rattle.ygg_shape_words.specs.Giving.{given}
 use Rattle.ygg_shape_cells.specs.Pruning.{given_row}
 use Rattle.ygg_shape_cells.specs.Lists.{each_two, each_from, fold_two, fold_from}
 use Rattle.ygg_shape_cells.specs.Making.{

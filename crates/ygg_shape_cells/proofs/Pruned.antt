@@ -12,8 +12,8 @@ use Rattle.ygg_shape_words.specs.ygg_bank.Values.{Inputs, Values, Fits}
 use Rattle.ygg_shape_words.specs.ygg_bank.declared.node.Id.{Id}
 use Rattle.ygg_shape_words.specs.ygg_bank.declared.node.Node.{Node}
 use Rattle.ygg_shape_words.proofs.Terms.{holds}
-use Rattle.ygg_shape_given.proofs.Worth.{given_grows, given_is}
-use Rattle.ygg_shape_given.specs.Giving.{given, SameWidth}
+use Rattle.ygg_shape_words.proofs.Givens.{given_grows, given_is}
+use Rattle.ygg_shape_words.specs.Giving.{given, SameWidth}
 use Rattle.ygg_shape_cells.proofs.Grows.{given_from_grows}
 use Rattle.ygg_shape_cells.proofs.Steps.{EachFrom, each_from_value}
 use Rattle.ygg_shape_cells.proofs.Wider.{IsWide, all_wider, row_wider}

@@ -3,7 +3,7 @@ use Rattle.std.specs.Prelude.{Bool, List}
 use Rattle.ygg_shape_words.specs.ygg_rules.declared.rule.RuleKind.{RuleKind}
 use Rattle.ygg_shape_words.specs.ygg_bank.Makes.{Make}
 use Rattle.ygg_shape_words.specs.ygg_bank.declared.node.Id.{Id}
-use Rattle.ygg_shape_given.specs.Giving.{given}
+use Rattle.ygg_shape_words.specs.Giving.{given}
 use Rattle.ygg_shape_cells.specs.Lists.{each_from}
 
 -- what the words of a row are where a test has this value

@@ -9,8 +9,7 @@ ghost use Rattle.ygg_shape_cells.specs.Terms.{IsRow, RowsAlike};
 use crate::merging::merge_row;
 use crate::terms::SymRow;
 use std::alloc::Global;
-use ygg_shape_given::given;
-use ygg_shape_words::{Bank, Book, Id, NoMemory};
+use ygg_shape_words::{Bank, Book, Id, NoMemory, given};
 
 /// One row where a test is 1, and else the other. The words of the first are taken as they are where `met` is 1, which follows from the test.
 pub fn write_row<B: Book>(

@@ -13,3 +13,6 @@ pub mod Compares
 pub mod Answered
 pub mod Sizes
 pub mod Each
+pub mod Decided
+pub mod Givens
+pub mod GivenSteps

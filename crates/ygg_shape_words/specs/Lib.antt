@@ -11,3 +11,5 @@ pub mod Digits
 pub mod Forms
 pub mod Same
 pub mod Sizing
+pub mod Deciding
+pub mod Giving

@@ -3,7 +3,7 @@ use Rattle.std.proofs.lemmas.List.Elements.{All-nil}
 use Rattle.std.proofs.lemmas.Result.{IfOk-from_err}
 use Rattle.ygg_shape_words.specs.ygg_bank_proofs_Widths.{extends_both, extends_self}
 use Rattle.ygg_shape_words.specs.ygg_bank.declared.node.Id.{Id}
-use Rattle.ygg_shape_given.specs.Giving.{given}
+use Rattle.ygg_shape_words.specs.Giving.{given}
 use Rattle.ygg_shape_cells.proofs.Pruned.{pruned_more, stands_more, shape_of}
 use Rattle.ygg_shape_cells.proofs.Steps.{EachFrom, each_from_goes, each_from_begins, each_from_nodes, each_from_value}
 use Rattle.ygg_shape_cells.proofs.Wider.{IsWide}

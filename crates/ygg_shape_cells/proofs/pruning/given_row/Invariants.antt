@@ -1,6 +1,6 @@
 use Rattle.std.proofs.Common.{ℕ, All}
 use Rattle.ygg_shape_words.specs.ygg_bank.Nodes.{Extends, IsBank}
-use Rattle.ygg_shape_given.specs.Giving.{given}
+use Rattle.ygg_shape_words.specs.Giving.{given}
 use Rattle.ygg_shape_cells.proofs.Steps.{EachFrom}
 use Rattle.ygg_shape_cells.proofs.Wider.{IsWide}
 use Rattle.ygg_shape_cells.proofs.pruning.given_row.Given as goal

@@ -1,7 +1,7 @@
-use Rattle.ygg_shape_words.specs.ygg_bank_proofs_Widths.{has_width, stands}
-use Rattle.ygg_shape_words.specs.ygg_bank.Nodes.{width_at, widths_of}
+use Rattle.ygg_bank.proofs.Widths.{has_width, stands}
+use Rattle.ygg_bank.specs.Nodes.{width_at, widths_of}
 use Rattle.ygg_shape_words.proofs.Children.{pick_children}
-use Rattle.ygg_shape_given.proofs.giving.way_on_by.Goals as goal
+use Rattle.ygg_shape_words.proofs.giving.way_on_by.Goals as goal
 
 pub decided-requires-clause-own : goal.decided-requires-clause-own
 decided-requires-clause-own c =

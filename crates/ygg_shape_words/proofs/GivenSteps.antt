@@ -1,18 +1,18 @@
 -- What the arms of the walk through picks answer is what its definition says.
 use Rattle.std.proofs.Common.{◌≡◌, ◌<◌, ◌-◌, ℕ, zero, suc, Bool, Result, Ok, Err, OnOk, IfOk, List, refl, sym, ap, ◌∙◌, subst, arith}
-use Rattle.ygg_shape_words.specs.ygg_rules.declared.rule.RuleKind.{RuleKind}
-use Rattle.ygg_shape_words.specs.ygg_bank_proofs_Exist.{values_fit}
-use Rattle.ygg_shape_words.specs.ygg_bank_proofs_Widths.{has_width}
-use Rattle.ygg_shape_words.specs.ygg_bank.Makes.{Make, Out, pure, and_make}
-use Rattle.ygg_shape_words.specs.ygg_bank.Nodes.{width_at, widths_of, IsBank, Stands}
-use Rattle.ygg_shape_words.specs.ygg_bank.Values.{value_of}
-use Rattle.ygg_shape_words.specs.ygg_bank.declared.node.Id.{Id}
-use Rattle.ygg_shape_words.specs.ygg_bank.declared.node.Node.{Node}
+use Rattle.ygg_rules.specs.declared.rule.RuleKind.{RuleKind}
+use Rattle.ygg_bank.proofs.Exist.{values_fit}
+use Rattle.ygg_bank.proofs.Widths.{has_width}
+use Rattle.ygg_bank.specs.Makes.{Make, Out, pure, and_make}
+use Rattle.ygg_bank.specs.Nodes.{width_at, widths_of, IsBank, Stands}
+use Rattle.ygg_bank.specs.Values.{value_of}
+use Rattle.ygg_bank.specs.declared.node.Id.{Id}
+use Rattle.ygg_bank.specs.declared.node.Node.{Node}
 use Rattle.ygg_shape_words.specs.Picking.{picked}
-use Rattle.ygg_shape_given.proofs.Worth.{given_is}
-use Rattle.ygg_shape_given.specs.Giving.{Pruned, IsGiven, IsPruned, way_on, given_as, given_within, given}
-use Rattle.ygg_shape_given.specs.declared.giving.Further.{Further}
-use Rattle.ygg_shape_given.specs.declared.giving.Further.TheVariants.{Whole, Side, Both}
+use Rattle.ygg_shape_words.proofs.Givens.{given_is}
+use Rattle.ygg_shape_words.specs.Giving.{Pruned, IsGiven, IsPruned, way_on, given_as, given_within, given}
+use Rattle.ygg_shape_words.specs.declared.giving.Further.{Further}
+use Rattle.ygg_shape_words.specs.declared.giving.Further.TheVariants.{Whole, Side, Both}
 
 -- what an answer is, from what it was said to be
 pub if_ok : {A E : Type 0} {P Q : A → Type 0} (r : Result A E) → IfOk r P → ((a : A) → P a → Q a) → IfOk r Q

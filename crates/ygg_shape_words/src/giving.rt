@@ -1,13 +1,15 @@
 //! Words where a test is known.
 
 ghost use Rattle.std.specs.Prelude.{◌≡◌, IfOk, OnOk};
-ghost use Rattle.ygg_shape_words.specs.ygg_bank.Inputs.{KeepsInputs};
-ghost use Rattle.ygg_shape_words.specs.ygg_bank.Nodes.{Extends, HasWidth, IsBank, Stands};
-ghost use Rattle.ygg_shape_words.specs.ygg_bank.Values.{KeepsValues};
-ghost use Rattle.ygg_shape_given.specs.Giving.{FurtherFits, IsGiven, IsPruned, SameWidth, way_on, given, given_within, side_of};
+ghost use Rattle.ygg_bank.specs.Inputs.{KeepsInputs};
+ghost use Rattle.ygg_bank.specs.Nodes.{Extends, HasWidth, IsBank, Stands};
+ghost use Rattle.ygg_bank.specs.Values.{KeepsValues};
+ghost use Rattle.ygg_shape_words.specs.Giving.{FurtherFits, IsGiven, IsPruned, SameWidth, way_on, given, given_within, side_of};
 
 use crate::deciding::decided;
-use ygg_shape_words::{Bank, Book, Id, NoMemory, Node, pick};
+use crate::picking::pick;
+use ygg_bank::{Bank, Id, NoMemory, Node};
+use ygg_rules::Book;
 
 /// How many picks a word is looked through, in all.
 pub const GIVEN_LIMIT: u32 = 300;

@@ -1,5 +1,5 @@
 use Rattle.ygg_shape_words.proofs.Children.{bin_stands}
-use Rattle.ygg_shape_given.proofs.deciding.by_nodes.Goals as goal
+use Rattle.ygg_shape_words.proofs.deciding.by_nodes.Goals as goal
 
 pub known-requires : goal.known-requires
 known-requires c =

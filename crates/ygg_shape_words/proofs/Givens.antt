@@ -1,27 +1,27 @@
 -- What a word is where a test has a value: its width, its nodes, and what it is worth.
 use Rattle.std.proofs.Common.{◌≡◌, ◌==◌, ◌-◌, ℕ, zero, suc, Bool, true, false, if◌then◌else◌, Option, Some, None, List, [], slice_get, refl, sym, ap, ◌∙◌}
 use Rattle.ygg_value.specs.Number.{Number}
-use Rattle.ygg_shape_words.specs.ygg_rules.declared.rule.RuleKind.{RuleKind}
-use Rattle.ygg_shape_words.specs.ygg_bank_proofs_Meaning.{fits_fewer}
-use Rattle.ygg_shape_words.specs.ygg_bank_proofs_Widths.{wider, extends_self, has_width, stands}
-use Rattle.ygg_shape_words.specs.ygg_bank.Makes.{Make}
-use Rattle.ygg_shape_words.specs.ygg_bank.Nodes.{width_at, widths_of, HasWidth, InOrder, Extends, Stands}
-use Rattle.ygg_shape_words.specs.ygg_bank.Values.{Inputs, Values, Fits}
-use Rattle.ygg_shape_words.specs.ygg_bank.declared.node.Id.{Id}
-use Rattle.ygg_shape_words.specs.ygg_bank.declared.node.Node.{Node}
-use Rattle.ygg_shape_words.specs.ygg_bank.declared.node.Node.TheVariants.{Pick}
+use Rattle.ygg_rules.specs.declared.rule.RuleKind.{RuleKind}
+use Rattle.ygg_bank.proofs.Meaning.{fits_fewer}
+use Rattle.ygg_bank.proofs.Widths.{wider, extends_self, has_width, stands}
+use Rattle.ygg_bank.specs.Makes.{Make}
+use Rattle.ygg_bank.specs.Nodes.{width_at, widths_of, HasWidth, InOrder, Extends, Stands}
+use Rattle.ygg_bank.specs.Values.{Inputs, Values, Fits}
+use Rattle.ygg_bank.specs.declared.node.Id.{Id}
+use Rattle.ygg_bank.specs.declared.node.Node.{Node}
+use Rattle.ygg_bank.specs.declared.node.Node.TheVariants.{Pick}
 use Rattle.ygg_shape_words.specs.Picking.{picked}
 use Rattle.ygg_shape_words.proofs.Children.{PickHas, pick_children}
 use Rattle.ygg_shape_words.proofs.Grows.{picked_grows}
 use Rattle.ygg_shape_words.proofs.Keeps.{Stays, grows_stays, picked_keeps}
 use Rattle.ygg_shape_words.proofs.Picks.{picked_is}
 use Rattle.ygg_shape_words.proofs.Terms.{holds}
-use Rattle.ygg_shape_given.proofs.Decided.{DecidesIs, decided_is}
-use Rattle.ygg_shape_given.specs.Deciding.{decided}
-use Rattle.ygg_shape_given.specs.Giving.{Pruned, FurtherFits, SameWidth, side_of, way_of, way_on, given_as, given_within, given}
-use Rattle.ygg_shape_given.specs.declared.giving.TheConstants.{GIVEN_LIMIT}
-use Rattle.ygg_shape_given.specs.declared.giving.Further.{Further}
-use Rattle.ygg_shape_given.specs.declared.giving.Further.TheVariants.{Whole, Side, Both}
+use Rattle.ygg_shape_words.proofs.Decided.{DecidesIs, decided_is}
+use Rattle.ygg_shape_words.specs.Deciding.{decided}
+use Rattle.ygg_shape_words.specs.Giving.{Pruned, FurtherFits, SameWidth, side_of, way_of, way_on, given_as, given_within, given}
+use Rattle.ygg_shape_words.specs.declared.giving.TheConstants.{GIVEN_LIMIT}
+use Rattle.ygg_shape_words.specs.declared.giving.Further.{Further}
+use Rattle.ygg_shape_words.specs.declared.giving.Further.TheVariants.{Whole, Side, Both}
 
 -- a step that prunes a word
 abbrev pub Prunes : Type 0

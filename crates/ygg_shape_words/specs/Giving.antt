@@ -1,17 +1,17 @@
 -- What words are where a test is known: a pick whose own test is decided by it is one of its words, however deep it stands.
 use Rattle.std.specs.Prelude.{ℕ, zero, suc, ◌-◌, ◌≡◌, ◌==◌, Bool, true, false, if◌then◌else◌, Option, Some, None, List, slice_get}
-use Rattle.ygg_shape_words.specs.ygg_rules.declared.rule.RuleKind.{RuleKind}
-use Rattle.ygg_shape_words.specs.ygg_bank.Makes.{Make, pure, and_make}
-use Rattle.ygg_shape_words.specs.ygg_bank.Nodes.{HasWidth}
-use Rattle.ygg_shape_words.specs.ygg_bank.Values.{Inputs, InputsFit, value_of}
-use Rattle.ygg_shape_words.specs.ygg_bank.declared.node.Id.{Id}
-use Rattle.ygg_shape_words.specs.ygg_bank.declared.node.Node.{Node}
-use Rattle.ygg_shape_words.specs.ygg_bank.declared.node.Node.TheVariants.{Pick}
+use Rattle.ygg_rules.specs.declared.rule.RuleKind.{RuleKind}
+use Rattle.ygg_bank.specs.Makes.{Make, pure, and_make}
+use Rattle.ygg_bank.specs.Nodes.{HasWidth}
+use Rattle.ygg_bank.specs.Values.{Inputs, InputsFit, value_of}
+use Rattle.ygg_bank.specs.declared.node.Id.{Id}
+use Rattle.ygg_bank.specs.declared.node.Node.{Node}
+use Rattle.ygg_bank.specs.declared.node.Node.TheVariants.{Pick}
 use Rattle.ygg_shape_words.specs.Picking.{picked}
-use Rattle.ygg_shape_given.specs.Deciding.{decided}
-use Rattle.ygg_shape_given.specs.declared.giving.TheConstants.{GIVEN_LIMIT}
-use Rattle.ygg_shape_given.specs.declared.giving.Further.{Further}
-use Rattle.ygg_shape_given.specs.declared.giving.Further.TheVariants.{Whole, Side, Both}
+use Rattle.ygg_shape_words.specs.Deciding.{decided}
+use Rattle.ygg_shape_words.specs.declared.giving.TheConstants.{GIVEN_LIMIT}
+use Rattle.ygg_shape_words.specs.declared.giving.Further.{Further}
+use Rattle.ygg_shape_words.specs.declared.giving.Further.TheVariants.{Whole, Side, Both}
 
 -- a word, and how many picks may still be looked through
 pub record Pruned : Type 0 where

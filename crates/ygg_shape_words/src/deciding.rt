@@ -1,10 +1,11 @@
 //! Which value a test has where another one has a value.
 
 ghost use Rattle.std.specs.Prelude.{◌≡◌, slice_get};
-ghost use Rattle.ygg_shape_words.specs.ygg_bank.Nodes.{IsBank, Stands};
-ghost use Rattle.ygg_shape_given.specs.Deciding.{by_digits, by_nodes, by_number, by_numbers, decided, of_digits};
+ghost use Rattle.ygg_bank.specs.Nodes.{IsBank, Stands};
+ghost use Rattle.ygg_shape_words.specs.Deciding.{by_digits, by_nodes, by_number, by_numbers, decided, of_digits};
 
-use ygg_shape_words::{Bank, Id, Node, known};
+use crate::picking::known;
+use ygg_bank::{Bank, Id, Node};
 use ygg_value::{Op, Word, resize};
 
 /// The value of the second test where the first one has this value, if that decides it: of one test the value itself, and of an equality

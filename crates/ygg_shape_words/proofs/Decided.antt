@@ -4,17 +4,17 @@ use Rattle.std.proofs.lemmas.Bool.Decides.{Decides-eqb}
 use Rattle.ygg_value.specs.Number.{Number}
 use Rattle.ygg_value.specs.Words.{resized}
 use Rattle.ygg_value.specs.declared.operation.Op.TheVariants.{Eq}
-use Rattle.ygg_shape_words.specs.ygg_bank_proofs_Fitting.{constant_there}
-use Rattle.ygg_shape_words.specs.ygg_bank_proofs_Widths.{stored_can}
-use Rattle.ygg_shape_words.specs.ygg_bank.Making.{known_in}
-use Rattle.ygg_shape_words.specs.ygg_bank.Nodes.{InOrder}
-use Rattle.ygg_shape_words.specs.ygg_bank.Values.{Inputs, Values, Fits}
-use Rattle.ygg_shape_words.specs.ygg_bank.declared.node.Id.{Id}
-use Rattle.ygg_shape_words.specs.ygg_bank.declared.node.Node.{Node}
-use Rattle.ygg_shape_words.specs.ygg_bank.declared.node.Node.TheVariants.{Const, Bin, Resize}
-use Rattle.ygg_shape_words.specs.ygg_rules.Views.{IsWidth}
+use Rattle.ygg_bank.proofs.Fitting.{constant_there}
+use Rattle.ygg_bank.proofs.Widths.{stored_can}
+use Rattle.ygg_bank.specs.Making.{known_in}
+use Rattle.ygg_bank.specs.Nodes.{InOrder}
+use Rattle.ygg_bank.specs.Values.{Inputs, Values, Fits}
+use Rattle.ygg_bank.specs.declared.node.Id.{Id}
+use Rattle.ygg_bank.specs.declared.node.Node.{Node}
+use Rattle.ygg_bank.specs.declared.node.Node.TheVariants.{Const, Bin, Resize}
+use Rattle.ygg_rules.specs.Views.{IsWidth}
 use Rattle.ygg_shape_words.proofs.Terms.{holds, bit_is}
-use Rattle.ygg_shape_given.specs.Deciding.{of_digits, by_digits, by_number, by_numbers, by_nodes, decided}
+use Rattle.ygg_shape_words.specs.Deciding.{of_digits, by_digits, by_number, by_numbers, by_nodes, decided}
 
 -- a node at a width has a width
 pub resize_wide : (nodes : List Node) (k w : ℕ) (a : Id) → InOrder [] nodes → slice_get nodes k ≡ Some (Resize a w) → IsWidth w

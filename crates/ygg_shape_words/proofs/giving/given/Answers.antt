@@ -1,6 +1,6 @@
-use Rattle.ygg_shape_words.specs.ygg_bank_proofs_Exist.{keeps_values}
-use Rattle.ygg_shape_given.proofs.GivenSteps.{given_value}
-use Rattle.ygg_shape_given.proofs.giving.given.Goals as goal
+use Rattle.ygg_bank.proofs.Exist.{keeps_values}
+use Rattle.ygg_shape_words.proofs.GivenSteps.{given_value}
+use Rattle.ygg_shape_words.proofs.giving.given.Goals as goal
 
 pub returns-clause-value : goal.returns-clause-value
 returns-clause-value g c =

@@ -1,5 +1,5 @@
-use Rattle.ygg_shape_given.proofs.Decided.{resize_wide}
-use Rattle.ygg_shape_given.proofs.deciding.by_digits.Goals as goal
+use Rattle.ygg_shape_words.proofs.Decided.{resize_wide}
+use Rattle.ygg_shape_words.proofs.deciding.by_digits.Goals as goal
 
 pub resize-requires-clause-least : goal.resize-requires-clause-least
 resize-requires-clause-least c =

@@ -3,10 +3,10 @@ use Rattle.std.specs.Prelude.{Bool, true, false, ◌==◌, if◌then◌else◌, 
 use Rattle.ygg_value.specs.Number.{Number}
 use Rattle.ygg_value.specs.Words.{resized}
 use Rattle.ygg_value.specs.declared.operation.Op.TheVariants.{Eq}
-use Rattle.ygg_shape_words.specs.ygg_bank.Making.{known_in}
-use Rattle.ygg_shape_words.specs.ygg_bank.declared.node.Id.{Id}
-use Rattle.ygg_shape_words.specs.ygg_bank.declared.node.Node.{Node}
-use Rattle.ygg_shape_words.specs.ygg_bank.declared.node.Node.TheVariants.{Bin, Resize}
+use Rattle.ygg_bank.specs.Making.{known_in}
+use Rattle.ygg_bank.specs.declared.node.Id.{Id}
+use Rattle.ygg_bank.specs.declared.node.Node.{Node}
+use Rattle.ygg_bank.specs.declared.node.Node.TheVariants.{Bin, Resize}
 
 -- whether y is m where this node is k: where the node is digits of y, it isn't unless m has just these
 abbrev pub of_digits : Number → Id → Number → Option Node → Option Bool

@@ -1,11 +1,11 @@
 use Rattle.std.proofs.Common.{rules, ◌<◌, Some, ap, ◌∙◌, arith}
-use Rattle.ygg_shape_words.specs.ygg_bank_proofs_Widths.{wider, width_is, has_width, stands, extends_both}
-use Rattle.ygg_shape_words.specs.ygg_bank.Nodes.{width_at, widths_of}
+use Rattle.ygg_bank.proofs.Widths.{wider, width_is, has_width, stands, extends_both}
+use Rattle.ygg_bank.specs.Nodes.{width_at, widths_of}
 use Rattle.ygg_shape_words.proofs.Each.{each_ok}
 use Rattle.ygg_shape_words.proofs.Fit.{can_pick}
-use Rattle.ygg_shape_given.proofs.GivenSteps.{if_ok, zero_answer, whole_answer, side_answer, both_answer}
-use Rattle.ygg_shape_given.proofs.Worth.{same_stands}
-use Rattle.ygg_shape_given.proofs.giving.+given_within.Goals as goal
+use Rattle.ygg_shape_words.proofs.GivenSteps.{if_ok, zero_answer, whole_answer, side_answer, both_answer}
+use Rattle.ygg_shape_words.proofs.Givens.{same_stands}
+use Rattle.ygg_shape_words.proofs.giving.+given_within.Goals as goal
 
 pub returns-then-depth-eq0-clause-made : goal.returns-then-depth-eq0-clause-made
 returns-then-depth-eq0-clause-made g t c =

@@ -1,9 +1,9 @@
 use Rattle.std.proofs.Common.{sym, subst}
-use Rattle.ygg_shape_words.specs.ygg_bank_proofs_Widths.{has_width}
-use Rattle.ygg_shape_words.specs.ygg_bank.Nodes.{width_at, widths_of}
-use Rattle.ygg_shape_given.proofs.Worth.{way_fits}
-use Rattle.ygg_shape_given.specs.Giving.{FurtherFits}
-use Rattle.ygg_shape_given.proofs.giving.way_on.Goals as goal
+use Rattle.ygg_bank.proofs.Widths.{has_width}
+use Rattle.ygg_bank.specs.Nodes.{width_at, widths_of}
+use Rattle.ygg_shape_words.proofs.Givens.{way_fits}
+use Rattle.ygg_shape_words.specs.Giving.{FurtherFits}
+use Rattle.ygg_shape_words.proofs.giving.way_on.Goals as goal
 
 pub returns-clause-fits : goal.returns-clause-fits
 returns-clause-fits c =
