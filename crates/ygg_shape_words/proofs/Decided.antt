@@ -54,6 +54,7 @@ module _ (inputs : Inputs) (v : Values) (nodes : List Node) (f : Fits inputs v n
         sym (digits_is y m w ((Decides-eqb (v y.0).bits m.bits).0 i)) ∙ ap (λ z. (resized (v z) w).bits) (sym s) ∙ sym (resize_is x a w e) ∙ h in
         let t : ((resized m w).bits == k.bits) ≡ true = (Decides-eqb (resized m w).bits k.bits).1 u in
         absurd (cc)
+
     here : (c : Bool) → (a.0 == y.0) ≡ c → DecidesIs ((v y.0).bits == m.bits) (if c then (if (resized m w).bits == k.bits then None else Some false) else None)
     here true s = there ((Decides-eqb a.0 y.0).0 s) ((resized m w).bits == k.bits) ((v y.0).bits == m.bits) refl refl
     here false s = tt
@@ -69,6 +70,7 @@ module _ (inputs : Inputs) (v : Values) (nodes : List Node) (f : Fits inputs v n
           sides : (c : Bool) → ((v y.0).bits == m.bits) ≡ c → DecidesIs ((v y.0).bits == m.bits) (if c then Some true else Some false)
           sides true i = i
           sides false i = i
+
     here : (c : Bool) → (a.0 == x.0) ≡ c →
         DecidesIs ((v y.0).bits == m.bits) (if c then (if (resized k w).bits == m.bits then Some true else Some false) else of_digits k y m one)
     here true s = there ((Decides-eqb a.0 x.0).0 s) ((resized k w).bits == m.bits) refl
@@ -80,6 +82,7 @@ module _ (inputs : Inputs) (v : Values) (nodes : List Node) (f : Fits inputs v n
     there : x.0 ≡ y.0 → (c : Bool) → (k.bits == m.bits) ≡ c → DecidesIs ((v y.0).bits == m.bits) (if c then Some true else Some false)
     there s true i = ap (λ z. z == m.bits) (ap (λ z. (v z).bits) (sym s) ∙ h) ∙ i
     there s false i = ap (λ z. z == m.bits) (ap (λ z. (v z).bits) (sym s) ∙ h) ∙ i
+
     here : (c : Bool) → (x.0 == y.0) ≡ c → DecidesIs ((v y.0).bits == m.bits)
         (if c then (if k.bits == m.bits then Some true else Some false) else by_digits x k y m (slice_get nodes x.0) (slice_get nodes y.0))
     here true s = there ((Decides-eqb x.0 y.0).0 s) (k.bits == m.bits) refl
@@ -114,6 +117,7 @@ module _ (inputs : Inputs) (v : Values) (nodes : List Node) (f : Fits inputs v n
     there : (c : Bool) → c ≡ on → DecidesIs (holds inputs v u) (if c then by_nodes nodes (slice_get nodes t.0) (slice_get nodes u.0) else None)
     there true e = by_nodes_is t u (slice_get nodes t.0) (slice_get nodes u.0) refl refl (h ∙ sym e)
     there false e = tt
+
     here : (c : Bool) → (u.0 == t.0) ≡ c →
         DecidesIs (holds inputs v u) (if c then Some on else if on then by_nodes nodes (slice_get nodes t.0) (slice_get nodes u.0) else None)
     here true e = ap (λ z. (v z).bits == 1) ((Decides-eqb u.0 t.0).0 e) ∙ h

@@ -70,7 +70,11 @@ fn by_number(bank: &Bank, x: Id, k: Word, y: Id, m: Word) -> Option<bool>
     ensures { result ≡ by_number bank.now x k y m }
 {
     if x.0 == y.0 {
-        if k.bits == m.bits { Some(true) } else { Some(false) }
+        if k.bits == m.bits {
+            Some(true)
+        } else {
+            Some(false)
+        }
     } else {
         by_digits(bank, x, k, y, m)
     }
@@ -86,7 +90,11 @@ fn by_digits(bank: &Bank, x: Id, k: Word, y: Id, m: Word) -> Option<bool>
     match bank.node(y) {
         Node::Resize { a, width } => {
             if a.0 == x.0 {
-                if resize(k, width).bits == m.bits { Some(true) } else { Some(false) }
+                if resize(k, width).bits == m.bits {
+                    Some(true)
+                } else {
+                    Some(false)
+                }
             } else {
                 of_digits(bank, x, k, y, m)
             }
@@ -104,7 +112,11 @@ fn of_digits(bank: &Bank, x: Id, k: Word, y: Id, m: Word) -> Option<bool>
     match bank.node(x) {
         Node::Resize { a, width } => {
             if a.0 == y.0 {
-                if resize(m, width).bits == k.bits { None } else { Some(false) }
+                if resize(m, width).bits == k.bits {
+                    None
+                } else {
+                    Some(false)
+                }
             } else {
                 None
             }

@@ -73,7 +73,13 @@ fn side_of(value: Option<bool>, test: Id, yes: Id, no: Id) -> Further
 /// The word where a test has a value: picks that this decides are one of their words, those of the others are picked anew, up to
 /// `GIVEN_LIMIT` in all. Where the test has the value, the answer has the word's value in every environment. Its only error is out of memory,
 /// after which the bank may have more nodes.
-pub fn given<B: Book>(bank: &mut Bank, book: &B, test: Id, value: bool, word: Id) -> Result<Id, NoMemory>
+pub fn given<B: Book>(
+    bank: &mut Bank,
+    book: &B,
+    test: Id,
+    value: bool,
+    word: Id,
+) -> Result<Id, NoMemory>
     requires bank { IsBank bank.old }
     requires test { Stands bank.old test }
     requires word { Stands bank.old word }
@@ -90,7 +96,13 @@ pub fn given<B: Book>(bank: &mut Bank, book: &B, test: Id, value: bool, word: Id
 }
 
 /// What `given` does.
-fn given_by<B: Book>(bank: &mut Bank, book: &B, test: Id, value: bool, word: Id) -> Result<Id, NoMemory>
+fn given_by<B: Book>(
+    bank: &mut Bank,
+    book: &B,
+    test: Id,
+    value: bool,
+    word: Id,
+) -> Result<Id, NoMemory>
     requires bank { IsBank bank.old }
     requires test { Stands bank.old test }
     requires word { Stands bank.old word }
@@ -133,11 +145,7 @@ fn given_within<B: Book>(
             *fuel = fuel.saturating_sub(1);
             given_within(bank, book, test, value, depth - 1, fuel, side)
         }
-        Further::Both {
-            test: own,
-            yes,
-            no,
-        } => {
+        Further::Both { test: own, yes, no } => {
             *fuel = fuel.saturating_sub(1);
             let one = given_within(bank, book, test, value, depth - 1, fuel, yes)?;
             let two = given_within(bank, book, test, value, depth - 1, fuel, no)?;
