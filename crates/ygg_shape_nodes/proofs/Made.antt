@@ -1,6 +1,5 @@
 -- What the rules make: it only adds nodes, adds no input, and has the node's value.
-use Rattle.std.proofs.Common.{◌≡◌, ℕ, zero, suc, Some, if◌then◌else◌, List, Result, Ok, Err, OnOk, IfOk, sym, ap, ◌∙◌, subst}
-use Rattle.ygg_value.specs.Number.{Number}
+use Rattle.std.proofs.Common.{◌≡◌, ℕ, zero, suc, Some, if◌then◌else◌, List, Result, Ok, Err, IfOk, sym, ap, ◌∙◌, subst}
 use Rattle.ygg_shape_words.specs.ygg_rules.declared.rule.RuleKind.{RuleKind}
 use Rattle.ygg_shape_words.specs.ygg_bank_proofs_Exist.{sees, values_fit, keeps_values}
 use Rattle.ygg_shape_words.specs.ygg_bank_proofs_Made.{made_grows}

@@ -1,5 +1,5 @@
 -- What may be made among nodes may be made among more of them.
-use Rattle.std.proofs.Common.{◌≡◌, ℕ, Some, List, [], slice_get, refl, sym, ap, ◌∙◌, subst}
+use Rattle.std.proofs.Common.{◌≡◌, Some, List, [], slice_get, refl, sym, ap, ◌∙◌, subst}
 use Rattle.ygg_value.specs.Words.{word, result_width, CanApply}
 use Rattle.ygg_shape_words.specs.ygg_bank_proofs_Widths.{wider, has_width, width_is, own_width, stands}
 use Rattle.ygg_shape_words.specs.ygg_bank.Inputs.{NoInput}

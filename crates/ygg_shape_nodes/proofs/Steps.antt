@@ -1,5 +1,5 @@
 -- What the arms of making a node answer is what its definition says.
-use Rattle.std.proofs.Common.{◌≡◌, ◌<◌, ℕ, zero, suc, ◌-◌, List, refl, sym, ap, ◌∙◌, arith}
+use Rattle.std.proofs.Common.{◌≡◌, ◌<◌, ℕ, zero, suc, ◌-◌, List, sym, ap, ◌∙◌, arith}
 use Rattle.ygg_value.specs.Number.{Number}
 use Rattle.ygg_shape_words.specs.ygg_rules.declared.rule.RuleKind.{RuleKind}
 use Rattle.ygg_shape_words.specs.ygg_bank.Makes.{Make, Out, pure, and_make}

@@ -1,13 +1,9 @@
-use Rattle.std.proofs.lemmas.Result.{IfOk-from_err}
 use Rattle.std.proofs.Common.{rules, ◌<◌, Some, sym, ap, ◌∙◌, subst, arith}
-use Rattle.ygg_shape_words.specs.ygg_bank_proofs_Widths.{wider, width_is, extends_self, extends_both}
-use Rattle.ygg_shape_words.proofs.Fit.{can_pick}
 use Rattle.ygg_shape_nodes.specs.Rules.{InsteadFits}
 use Rattle.ygg_shape_nodes.proofs.Instead.{instead_fits}
 use Rattle.ygg_shape_nodes.proofs.Moved.{can_later}
 use Rattle.ygg_shape_nodes.proofs.Made.{split_widths, other_wide}
 use Rattle.ygg_shape_nodes.proofs.Steps.{zero_made, itself_made, term_made, constant_made, other_made, split_made}
-use Rattle.ygg_shape_nodes.specs.declared.rules.Instead.TheVariants as instead
 use Rattle.ygg_shape_nodes.proofs.making.+made_within.Goals as goal
 
 pub returns-then-depth-eq0-clause-made : goal.returns-then-depth-eq0-clause-made
