@@ -21,7 +21,7 @@ use Rattle.ygg_shape.specs.ygg_shape_cells.Terms.{AreAlike}
 use Rattle.ygg_shape.specs.ygg_shape_cells.declared.terms.SymValue.{SymValue}
 use Rattle.ygg_shape.specs.ygg_shape_cells.declared.terms.SymValue.TheVariants.{Word, Row}
 use Rattle.ygg_sym_runs.specs.Names.{SymEnv}
-use Rattle.ygg_sym_runs.specs.Exprs.{id_in, all_made, word_made, applied, part_made, joined}
+use Rattle.ygg_sym_runs.specs.Exprs.{id_in, all_made, word_made, small_made, applied, part_made, joined}
 use Rattle.ygg_sym_runs.specs.ExpressionMeaning.{SomeShape}
 use Rattle.ygg_sym_runs.specs.Seen.{SymKnown, CanTerm, CanCall, CanQuantify, CanOperate, terms_called, terms_in, joining, start_of, test_at}
 use Rattle.ygg_sym_runs.proofs.Constructs.{
@@ -138,10 +138,10 @@ module _ (kinds : List RuleKind) (k : SymKnown) where
       (not_stands kinds k first a old bank (opened old e (tree.Not first a) can is)) there
 
   pub complement_gives : (e : Expr) (first : Place) (a c : Expr) (old mid : List Node) (x : SymValue) → e ≡ tree.Not first a → c ≡ a → Gave c old mid x →
-      word_made kinds (node.Not (id_in x)) mid ≡ T e old
+      small_made kinds (node.Not (id_in x)) mid ≡ T e old
   complement_gives e first a c old mid x is ca p =
       let u = other c a old mid x ca p in
-      one_then (T a) (λ x. word_made kinds (node.Not (id_in x))) old mid x u.nodes u.value ∙ not_made kinds k e first a old is
+      one_then (T a) (λ x. small_made kinds (node.Not (id_in x))) old mid x u.nodes u.value ∙ not_made kinds k e first a old is
 
   -- `resize`
 
@@ -161,10 +161,10 @@ module _ (kinds : List RuleKind) (k : SymKnown) where
       (resize_stands kinds k first a w old bank (opened old e (tree.Resize first a w) can is)) there
 
   pub resized_gives : (e : Expr) (first : Place) (a : Expr) (w : Numeral) (c : Expr) (old mid : List Node) (x : SymValue) → e ≡ tree.Resize first a w →
-      c ≡ a → Gave c old mid x → word_made kinds (node.Resize (id_in x) w.value) mid ≡ T e old
+      c ≡ a → Gave c old mid x → small_made kinds (node.Resize (id_in x) w.value) mid ≡ T e old
   resized_gives e first a w c old mid x is ca p =
       let u = other c a old mid x ca p in
-      one_then (T a) (λ x. word_made kinds (node.Resize (id_in x) w.value)) old mid x u.nodes u.value ∙ resize_made kinds k e first a w old is
+      one_then (T a) (λ x. small_made kinds (node.Resize (id_in x) w.value)) old mid x u.nodes u.value ∙ resize_made kinds k e first a w old is
 
   -- `fill`
 

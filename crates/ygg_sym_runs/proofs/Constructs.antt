@@ -20,7 +20,7 @@ use Rattle.ygg_shape.specs.ygg_shape_cells.Making.{merged}
 use Rattle.ygg_shape.specs.ygg_shape_cells.declared.terms.SymValue.{SymValue}
 use Rattle.ygg_shape.specs.ygg_shape_cells.declared.terms.SymValue.TheVariants.{Word, Row}
 use Rattle.ygg_sym_runs.specs.Names.{SymScope, sym_look_up}
-use Rattle.ygg_sym_runs.specs.Exprs.{Making, id_in, all_made, word_made, applied, part_made, joined, quantified_made, node_made, sym_value}
+use Rattle.ygg_sym_runs.specs.Exprs.{Making, id_in, all_made, word_made, small_made, applied, part_made, joined, quantified_made, node_made, sym_value}
 use Rattle.ygg_sym_runs.specs.Seen.{SymKnown, terms_called, terms_in, joining, start_of, test_at}
 
 -- what is answered with the nodes that one step leaves is answered with those of an equal one
@@ -106,7 +106,7 @@ module _ (kinds : List RuleKind) (k : SymKnown) where
       ∙ ap (λ (m : Making). m k.scope nodes) (fold-roll-Expr Making (node_made kinds (terms_called kinds k.defs)) (Expr-F.Binary first a o at b)))
 
   pub not_made : (e : Expr) (first : Place) (a : Expr) (nodes : List Node) → e ≡ tree.Not first a →
-      and_make (T a) (λ x. word_made kinds (node.Not (id_in x))) nodes ≡ T e nodes
+      and_make (T a) (λ x. small_made kinds (node.Not (id_in x))) nodes ≡ T e nodes
   not_made e first a nodes is =
       sym (ap (λ x. T x nodes) (is ∙ sym (tree.rolls-Not first a))
       ∙ ap (λ (m : Making). m k.scope nodes) (fold-roll-Expr Making (node_made kinds (terms_called kinds k.defs)) (Expr-F.Not first a)))
@@ -124,7 +124,7 @@ module _ (kinds : List RuleKind) (k : SymKnown) where
       ∙ ap (λ (m : Making). m k.scope nodes) (fold-roll-Expr Making (node_made kinds (terms_called kinds k.defs)) (Expr-F.Pick first c a b)))
 
   pub resize_made : (e : Expr) (first : Place) (a : Expr) (w : Numeral) (nodes : List Node) → e ≡ tree.Resize first a w →
-      and_make (T a) (λ x. word_made kinds (node.Resize (id_in x) w.value)) nodes ≡ T e nodes
+      and_make (T a) (λ x. small_made kinds (node.Resize (id_in x) w.value)) nodes ≡ T e nodes
   resize_made e first a w nodes is =
       sym (ap (λ x. T x nodes) (is ∙ sym (tree.rolls-Resize first a w))
       ∙ ap (λ (m : Making). m k.scope nodes) (fold-roll-Expr Making (node_made kinds (terms_called kinds k.defs)) (Expr-F.Resize first a w)))

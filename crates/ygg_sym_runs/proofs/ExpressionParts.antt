@@ -64,12 +64,14 @@ use Rattle.ygg_shape.specs.Comparing.{compared}
 use Rattle.ygg_shape.specs.ygg_shape_cells.Terms.{IsShaped, AreAlike, worth, numbers_of, row_width}
 use Rattle.ygg_shape.specs.ygg_shape_cells.declared.terms.SymValue.{SymValue}
 use Rattle.ygg_shape.specs.ygg_shape_cells.declared.terms.SymValue.TheVariants.{Word, Row, Table}
-use Rattle.ygg_sym_runs.specs.Exprs.{id_in, word_made, number_made, applied, part_made, joined}
+use Rattle.ygg_shape_nodes.proofs.Made.{small_is}
+use Rattle.ygg_shape_nodes.specs.Making.{made_small}
+use Rattle.ygg_sym_runs.specs.Exprs.{id_in, word_made, small_made, number_made, applied, part_made, joined}
 use Rattle.ygg_sym_runs.specs.Names.{SymScope}
 use Rattle.ygg_sym_runs.specs.ExpressionMeaning.{SomeShape, ScopeShaped, Grows, Gives, IsWorth}
 use Rattle.ygg_sym_runs.proofs.Shaped.{worth_shape, is_term, word_worth, scope_wider}
 use Rattle.ygg_shape.proofs.ComparedKeeps.{compared_grows}
-use Rattle.ygg_sym_runs.proofs.Grows.{word_grows, joined_grows}
+use Rattle.ygg_sym_runs.proofs.Grows.{small_grows, joined_grows}
 
 -- words of these widths may be operated on as words that have them
 can_widths : (o : Op) (x y : Number) (i j : ℕ) → i ≡ x.width → j ≡ y.width → CanApply o x y → CanApply o (word i 0) (word j 0)
@@ -99,6 +101,11 @@ module _ (inputs : Inputs) (v : Values) (kinds : List RuleKind) where
       let o = made kinds n nodes in
       word_worth inputs v o.nodes (node_width (widths_of nodes) n) (node_value inputs v n) o.value h (made_is inputs v kinds n nodes c h)
 
+  pub small_gives : (n : Node) (nodes : List Node) → CanMake nodes n → Gives inputs v (small_made kinds n) nodes (IsWorth v (value.Word (node_value inputs v n)))
+  small_gives n nodes c h =
+      let o = made_small kinds n nodes in
+      word_worth inputs v o.nodes (node_width (widths_of nodes) n) (node_value inputs v n) o.value h (small_is inputs v kinds n nodes c h)
+
   pub number_gives : (w i : ℕ) (nodes : List Node) → IsWord (word w i) → Gives inputs v (number_made kinds w i) nodes (IsWorth v (value.Word (word w i)))
   number_gives w i nodes c h = word_gives (node.Const (word w i)) nodes c h
 
@@ -118,13 +125,13 @@ module _ (inputs : Inputs) (v : Values) (kinds : List RuleKind) where
       }
 
   plain_gives : (o : Op) (x y : SymValue) (a b : Value) (nodes : List Node) → IsWorth v a nodes x → IsWorth v b nodes y → Operands o a b →
-      Gives inputs v (word_made kinds (node.Bin o (id_in x) (id_in y))) nodes (IsWorth v (value.Word (apply_to o (word_in a) (word_in b))))
+      Gives inputs v (small_made kinds (node.Bin o (id_in x) (id_in y))) nodes (IsWorth v (value.Word (apply_to o (word_in a) (word_in b))))
   plain_gives o x y a b nodes p q r h =
-      let f = fits_fewer inputs v nodes (word_made kinds (node.Bin o (id_in x) (id_in y)) nodes).nodes
-      (word_grows kinds (node.Bin o (id_in x) (id_in y)) nodes) h in
+      let f = fits_fewer inputs v nodes (small_made kinds (node.Bin o (id_in x) (id_in y)) nodes).nodes
+      (small_grows kinds (node.Bin o (id_in x) (id_in y)) nodes) h in
       let s = is_term inputs v a nodes x f p r.first in
       let t = is_term inputs v b nodes y f q r.second in
-      let m = word_gives (node.Bin o (id_in x) (id_in y)) nodes (plain_can o x y a b nodes f p q r) h in
+      let m = small_gives (node.Bin o (id_in x) (id_in y)) nodes (plain_can o x y a b nodes f p q r) h in
       record {
         shaped = m.shaped;
         is = m.is ∙ ap (λ k. value.Word (apply_to o k (v (id_in y).0))) s.worth ∙ ap (λ k. value.Word (apply_to o (word_in a) k)) t.worth;
@@ -176,9 +183,9 @@ module _ (inputs : Inputs) (v : Values) (kinds : List RuleKind) where
       Gives inputs v (applied kinds op.Ne x y) nodes (IsWorth v (apply_value op.Ne a b))
   unequal_gives x y a b nodes p q e h =
       let o = compared kinds x y nodes in
-      let r = word_made kinds (node.Not o.value) o.nodes in
-      let d = compared_means x y a b nodes p q e (fits_fewer inputs v o.nodes r.nodes (word_grows kinds (node.Not o.value) o.nodes) h) in
-      let m = word_gives (node.Not o.value) o.nodes (stands o.nodes o.value 1 d.wide) h in
+      let r = small_made kinds (node.Not o.value) o.nodes in
+      let d = compared_means x y a b nodes p q e (fits_fewer inputs v o.nodes r.nodes (small_grows kinds (node.Not o.value) o.nodes) h) in
+      let m = small_gives (node.Not o.value) o.nodes (stands o.nodes o.value 1 d.wide) h in
       record { shaped = m.shaped; is = m.is ∙ ap (λ k. value.Word (not_of k)) d.is ∙ ap value.Word (not_digit (same_value a b)) }
 
   pub applied_gives : (o : Op) (x y : SymValue) (a b : Value) (nodes : List Node) → IsWorth v a nodes x → IsWorth v b nodes y →
@@ -202,19 +209,19 @@ module _ (inputs : Inputs) (v : Values) (kinds : List RuleKind) where
   -- `~e`, and another width
 
   pub not_gives : (x : SymValue) (a : Value) (nodes : List Node) → IsWorth v a nodes x → is_word (shape_of a) ≡ true →
-      Gives inputs v (word_made kinds (node.Not (id_in x))) nodes (IsWorth v (value.Word (not_of (word_in a))))
+      Gives inputs v (small_made kinds (node.Not (id_in x))) nodes (IsWorth v (value.Word (not_of (word_in a))))
   not_gives x a nodes p e h =
-      let f = fits_fewer inputs v nodes (word_made kinds (node.Not (id_in x)) nodes).nodes (word_grows kinds (node.Not (id_in x)) nodes) h in
+      let f = fits_fewer inputs v nodes (small_made kinds (node.Not (id_in x)) nodes).nodes (small_grows kinds (node.Not (id_in x)) nodes) h in
       let s = is_term inputs v a nodes x f p e in
-      let m = word_gives (node.Not (id_in x)) nodes (stands nodes (id_in x) (word_in a).width s.wide) h in
+      let m = small_gives (node.Not (id_in x)) nodes (stands nodes (id_in x) (word_in a).width s.wide) h in
       record { shaped = m.shaped; is = m.is ∙ ap (λ k. value.Word (not_of k)) s.worth }
 
   pub resized_gives : (x : SymValue) (a : Value) (w : ℕ) (nodes : List Node) → IsWorth v a nodes x → is_word (shape_of a) ≡ true → Within 64 w →
-      Gives inputs v (word_made kinds (node.Resize (id_in x) w)) nodes (IsWorth v (value.Word (resized (word_in a) w)))
+      Gives inputs v (small_made kinds (node.Resize (id_in x) w)) nodes (IsWorth v (value.Word (resized (word_in a) w)))
   resized_gives x a w nodes p e l h =
-      let f = fits_fewer inputs v nodes (word_made kinds (node.Resize (id_in x) w) nodes).nodes (word_grows kinds (node.Resize (id_in x) w) nodes) h in
+      let f = fits_fewer inputs v nodes (small_made kinds (node.Resize (id_in x) w) nodes).nodes (small_grows kinds (node.Resize (id_in x) w) nodes) h in
       let s = is_term inputs v a nodes x f p e in
-      let m = word_gives (node.Resize (id_in x) w) nodes (stands nodes (id_in x) (word_in a).width s.wide, record { least = l.0; most = l.1 }) h in
+      let m = small_gives (node.Resize (id_in x) w) nodes (stands nodes (id_in x) (word_in a).width s.wide, record { least = l.0; most = l.1 }) h in
       record { shaped = m.shaped; is = m.is ∙ ap (λ k. value.Word (resized k w)) s.worth }
 
   -- parts of rows and tables

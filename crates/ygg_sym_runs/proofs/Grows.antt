@@ -13,8 +13,9 @@ use Rattle.ygg_shape.specs.ygg_bank.declared.node.Id.{Id}
 use Rattle.ygg_shape.specs.ygg_bank.declared.node.Node.{Node}
 use Rattle.ygg_shape.specs.ygg_shape_words_proofs_Keeps.{grows_stays}
 use Rattle.ygg_shape.specs.ygg_shape_cells.declared.terms.SymValue.{SymValue}
+use Rattle.ygg_shape_nodes.proofs.Made.{small_grows as nodes_grow}
 use Rattle.ygg_sym_runs.specs.Names.{SymScope}
-use Rattle.ygg_sym_runs.specs.Exprs.{SymFunctions, Making, all_made, word_made, applied, part_made, joined, at_number, sym_value, sym_functions}
+use Rattle.ygg_sym_runs.specs.Exprs.{SymFunctions, Making, all_made, word_made, small_made, applied, part_made, joined, at_number, sym_value, sym_functions}
 use Rattle.ygg_sym_runs.specs.ExpressionMeaning.{Grows}
 use Rattle.ygg_sym_runs.proofs.Keeps.{Keeps, part_keeps, applied_keeps, joined_keeps, at_number_keeps, value_keeps, all_keep, functions_keep}
 
@@ -33,6 +34,9 @@ after m g first nodes p = extends_both first nodes (m nodes).nodes p (g nodes)
 module _ (kinds : List RuleKind) where
   pub word_grows : (n : Node) → Grows (word_made kinds n)
   word_grows n nodes = made_grows kinds n nodes
+
+  pub small_grows : (n : Node) → Grows (small_made kinds n)
+  small_grows n nodes = nodes_grow kinds n nodes
 
   pub part_grows : (x : SymValue) (at : Id) → Grows (part_made kinds x at)
   part_grows x at nodes = part_keeps kinds (Extends nodes) (grows_stays kinds nodes) x at nodes (extends_self nodes)

@@ -22,6 +22,7 @@ use Rattle.ygg_shape.specs.ygg_shape_cells.declared.terms.SymValue.TheVariants.{
 use Rattle.ygg_shape.specs.ygg_shape_cells_proofs_Keeps.{merged_keeps, selected_keeps}
 use Rattle.ygg_shape.proofs.ComparedKeeps.{compared_keeps}
 use Rattle.ygg_shape.specs.RowPlaces.{singles}
+use Rattle.ygg_shape_nodes.proofs.Made.{small_keeps}
 use Rattle.ygg_sym_runs.specs.Names.{SymScope, sym_bind}
 use Rattle.ygg_sym_runs.specs.Exprs.{
   SymFunctions,
@@ -62,24 +63,24 @@ module _ (kinds : List RuleKind) (P : List Node → Type 0) (stays : Stays kinds
   part_keeps (Table table) at nodes p = selected_keeps kinds P stays table at nodes p
 
   unequal_keeps : (x y : SymValue) → Keeps P (applied kinds op.Ne x y)
-  unequal_keeps x y nodes p = let o = compared kinds x y nodes in stays (node.Not o.value) o.nodes tt (compared_keeps kinds P stays x y nodes p)
+  unequal_keeps x y nodes p = let o = compared kinds x y nodes in small_keeps kinds P stays (node.Not o.value) o.nodes tt (compared_keeps kinds P stays x y nodes p)
 
   pub applied_keeps : (o : Op) (x y : SymValue) → Keeps P (applied kinds o x y)
   applied_keeps op.Eq x y nodes p = compared_keeps kinds P stays x y nodes p
   applied_keeps op.Ne x y nodes p = unequal_keeps x y nodes p
-  applied_keeps op.Add x y nodes p = stays (node.Bin op.Add (id_in x) (id_in y)) nodes tt p
-  applied_keeps op.Sub x y nodes p = stays (node.Bin op.Sub (id_in x) (id_in y)) nodes tt p
-  applied_keeps op.Mul x y nodes p = stays (node.Bin op.Mul (id_in x) (id_in y)) nodes tt p
-  applied_keeps op.And x y nodes p = stays (node.Bin op.And (id_in x) (id_in y)) nodes tt p
-  applied_keeps op.Or x y nodes p = stays (node.Bin op.Or (id_in x) (id_in y)) nodes tt p
-  applied_keeps op.Xor x y nodes p = stays (node.Bin op.Xor (id_in x) (id_in y)) nodes tt p
-  applied_keeps op.Shl x y nodes p = stays (node.Bin op.Shl (id_in x) (id_in y)) nodes tt p
-  applied_keeps op.Shr x y nodes p = stays (node.Bin op.Shr (id_in x) (id_in y)) nodes tt p
-  applied_keeps op.Lt x y nodes p = stays (node.Bin op.Lt (id_in x) (id_in y)) nodes tt p
-  applied_keeps op.Le x y nodes p = stays (node.Bin op.Le (id_in x) (id_in y)) nodes tt p
-  applied_keeps op.Gt x y nodes p = stays (node.Bin op.Gt (id_in x) (id_in y)) nodes tt p
-  applied_keeps op.Ge x y nodes p = stays (node.Bin op.Ge (id_in x) (id_in y)) nodes tt p
-  applied_keeps op.Imp x y nodes p = stays (node.Bin op.Imp (id_in x) (id_in y)) nodes tt p
+  applied_keeps op.Add x y nodes p = small_keeps kinds P stays (node.Bin op.Add (id_in x) (id_in y)) nodes tt p
+  applied_keeps op.Sub x y nodes p = small_keeps kinds P stays (node.Bin op.Sub (id_in x) (id_in y)) nodes tt p
+  applied_keeps op.Mul x y nodes p = small_keeps kinds P stays (node.Bin op.Mul (id_in x) (id_in y)) nodes tt p
+  applied_keeps op.And x y nodes p = small_keeps kinds P stays (node.Bin op.And (id_in x) (id_in y)) nodes tt p
+  applied_keeps op.Or x y nodes p = small_keeps kinds P stays (node.Bin op.Or (id_in x) (id_in y)) nodes tt p
+  applied_keeps op.Xor x y nodes p = small_keeps kinds P stays (node.Bin op.Xor (id_in x) (id_in y)) nodes tt p
+  applied_keeps op.Shl x y nodes p = small_keeps kinds P stays (node.Bin op.Shl (id_in x) (id_in y)) nodes tt p
+  applied_keeps op.Shr x y nodes p = small_keeps kinds P stays (node.Bin op.Shr (id_in x) (id_in y)) nodes tt p
+  applied_keeps op.Lt x y nodes p = small_keeps kinds P stays (node.Bin op.Lt (id_in x) (id_in y)) nodes tt p
+  applied_keeps op.Le x y nodes p = small_keeps kinds P stays (node.Bin op.Le (id_in x) (id_in y)) nodes tt p
+  applied_keeps op.Gt x y nodes p = small_keeps kinds P stays (node.Bin op.Gt (id_in x) (id_in y)) nodes tt p
+  applied_keeps op.Ge x y nodes p = small_keeps kinds P stays (node.Bin op.Ge (id_in x) (id_in y)) nodes tt p
+  applied_keeps op.Imp x y nodes p = small_keeps kinds P stays (node.Bin op.Imp (id_in x) (id_in y)) nodes tt p
 
   pub joined_keeps : (o : Op) (start n : ℕ) (test : ℕ → Make SymValue) → ((i : ℕ) → Keeps P (test i)) → Keeps P (joined kinds o start n test)
   joined_keeps o start zero test g nodes p = stays (node.Const (word 1 start)) nodes tt p
@@ -119,7 +120,7 @@ module _ (kinds : List RuleKind) (P : List Node → Type 0) (stays : Stays kinds
         let x = S a.0 scope nodes in
         let y = S b.0 scope x.nodes in
         applied_keeps o x.value y.value y.nodes (b.1 scope x.nodes (a.1 scope nodes p))
-    node_keeps (Expr-F.Not first a) scope nodes p = let x = S a.0 scope nodes in stays (node.Not (id_in x.value)) x.nodes tt (a.1 scope nodes p)
+    node_keeps (Expr-F.Not first a) scope nodes p = let x = S a.0 scope nodes in small_keeps kinds P stays (node.Not (id_in x.value)) x.nodes tt (a.1 scope nodes p)
     node_keeps (Expr-F.At a bracket i) scope nodes p =
         let x = S a.0 scope nodes in
         let k = S i.0 scope x.nodes in
@@ -130,7 +131,7 @@ module _ (kinds : List RuleKind) (P : List Node → Type 0) (stays : Stays kinds
         let y = S b.0 scope x.nodes in
         merged_keeps kinds P stays (id_in t.value) x.value y.value y.nodes (b.1 scope x.nodes (a.1 scope t.nodes (c.1 scope nodes p)))
     node_keeps (Expr-F.Resize first a w) scope nodes p =
-        let x = S a.0 scope nodes in stays (node.Resize (id_in x.value) w.value) x.nodes tt (a.1 scope nodes p)
+        let x = S a.0 scope nodes in small_keeps kinds P stays (node.Resize (id_in x.value) w.value) x.nodes tt (a.1 scope nodes p)
     node_keeps (Expr-F.Fill first m a) scope nodes p = a.1 scope nodes p
     node_keeps (Expr-F.Row first es) scope nodes p = all_shown es scope nodes p
     node_keeps (Expr-F.Quantified first All x w n e) scope nodes p =

@@ -113,6 +113,7 @@ use Rattle.ygg_sym_runs.specs.Exprs.{
   id_in,
   all_made,
   word_made,
+  small_made,
   number_made,
   applied,
   part_made,
@@ -126,7 +127,7 @@ use Rattle.ygg_sym_runs.specs.Exprs.{
 use Rattle.ygg_sym_runs.specs.ExpressionMeaning.{SomeShape, EnvShaped, ScopeShaped, Gives, worths, scope_worth, IsWorth}
 use Rattle.ygg_sym_runs.proofs.Shaped.{some_wider, scope_wider, word_worth}
 use Rattle.ygg_shape.specs.ygg_shape_cells_proofs_Grows.{merged_grows}
-use Rattle.ygg_sym_runs.proofs.Grows.{AlwaysGrows, FunctionsGrow, word_grows, applied_grows, part_grows, at_number_grows, all_grow, value_grows}
+use Rattle.ygg_sym_runs.proofs.Grows.{AlwaysGrows, FunctionsGrow, small_grows, word_grows, applied_grows, part_grows, at_number_grows, all_grow, value_grows}
 use Rattle.ygg_sym_runs.proofs.ExpressionParts.{
   AllWorth,
   number_gives,
@@ -296,8 +297,8 @@ module _ (inputs : Inputs) (v : Values) where
             (closed (tree.Not first a.0) (node_typing (Expr-F.Not first (typing a.0))) scope (typed_not first a.0) e) in
             let l = t.operand in
             let x = S a.0 from nodes in
-            let r = word_made kinds (node.Not (id_in x.value)) x.nodes in
-            let hx = fits_fewer inputs v x.nodes r.nodes (word_grows kinds (node.Not (id_in x.value)) x.nodes) h in
+            let r = small_made kinds (node.Not (id_in x.value)) x.nodes in
+            let hx = fits_fewer inputs v x.nodes r.nodes (small_grows kinds (node.Not (id_in x.value)) x.nodes) h in
             not_gives inputs v kinds x.value (V a.0 env) x.nodes (a.1.gives scope from nodes d agrees l.without_errors s hx) t.word h;
       }
 
@@ -365,8 +366,8 @@ module _ (inputs : Inputs) (v : Values) where
             let l = t.operand in
             let parts = t.parts in
             let x = S a.0 from nodes in
-            let r = word_made kinds (node.Resize (id_in x.value) w.value) x.nodes in
-            let hx = fits_fewer inputs v x.nodes r.nodes (word_grows kinds (node.Resize (id_in x.value) w.value) x.nodes) h in
+            let r = small_made kinds (node.Resize (id_in x.value) w.value) x.nodes in
+            let hx = fits_fewer inputs v x.nodes r.nodes (small_grows kinds (node.Resize (id_in x.value) w.value) x.nodes) h in
             resized_gives inputs v kinds x.value (V a.0 env) w.value x.nodes
             (a.1.gives scope from nodes d agrees l.without_errors s hx) parts.word parts.width h;
       }

@@ -21,6 +21,7 @@ use Rattle.ygg_shape.specs.ygg_shape_cells.Making.{merged, selected}
 use Rattle.ygg_shape.specs.Comparing.{compared}
 use Rattle.ygg_shape.specs.ygg_shape_cells.declared.terms.SymValue.{SymValue}
 use Rattle.ygg_shape.specs.ygg_shape_cells.declared.terms.SymValue.TheVariants.{Word, Row, Table}
+use Rattle.ygg_shape_nodes.specs.Making.{made_small}
 use Rattle.ygg_sym_runs.specs.Names.{SymScope, no_term, sym_look_up, sym_bind}
 use Rattle.ygg_shape.specs.RowPlaces.{word_selected}
 
@@ -48,6 +49,10 @@ module _ (kinds : List RuleKind) where
   abbrev pub word_made : Node → Make SymValue
   word_made n = and_make (made kinds n) (λ a. pure (Word a))
 
+  -- a word, by the rules on nodes
+  abbrev pub small_made : Node → Make SymValue
+  small_made n = and_make (made_small kinds n) (λ a. pure (Word a))
+
   -- a number of this width
   abbrev pub number_made : ℕ → ℕ → Make SymValue
   number_made width number = word_made (node.Const (word width number))
@@ -58,13 +63,13 @@ module _ (kinds : List RuleKind) where
 
   -- whether they aren't
   abbrev pub unequal_made : SymValue → SymValue → Make SymValue
-  unequal_made x y = and_make (compared kinds x y) (λ a. word_made (node.Not a))
+  unequal_made x y = and_make (compared kinds x y) (λ a. small_made (node.Not a))
 
   -- an operation on two values; only equality is asked of rows and tables
   abbrev pub applied : Op → SymValue → SymValue → Make SymValue
   applied op.Eq x y = equal_made x y
   applied op.Ne x y = unequal_made x y
-  applied o x y = word_made (node.Bin o (id_in x) (id_in y))
+  applied o x y = small_made (node.Bin o (id_in x) (id_in y))
 
   -- a word of a row, or a row of a table, at a place; a word, which no typed file takes apart, stays
   abbrev pub part_made : SymValue → Id → Make SymValue
@@ -97,11 +102,11 @@ module _ (kinds : List RuleKind) where
   node_made functions (Expr-F.Variable x) scope = pure (sym_look_up x.text scope.own)
   node_made functions (Expr-F.Apply f arguments) scope = and_make (all_made arguments scope) (functions f.text)
   node_made functions (Expr-F.Binary first a o at b) scope = and_make (a scope) (λ x. and_make (b scope) (applied o x))
-  node_made functions (Expr-F.Not first a) scope = and_make (a scope) (λ x. word_made (node.Not (id_in x)))
+  node_made functions (Expr-F.Not first a) scope = and_make (a scope) (λ x. small_made (node.Not (id_in x)))
   node_made functions (Expr-F.At a bracket i) scope = and_make (a scope) (λ x. and_make (i scope) (λ k. part_made x (id_in k)))
   node_made functions (Expr-F.Pick first test a b) scope =
       and_make (test scope) (λ t. and_make (a scope) (λ x. and_make (b scope) (merged kinds (id_in t) x)))
-  node_made functions (Expr-F.Resize first a w) scope = and_make (a scope) (λ x. word_made (node.Resize (id_in x) w.value))
+  node_made functions (Expr-F.Resize first a w) scope = and_make (a scope) (λ x. small_made (node.Resize (id_in x) w.value))
   node_made functions (Expr-F.Fill first n a) scope = and_make (a scope) (λ x. pure (Row (replicate n.value (id_in x))))
   node_made functions (Expr-F.Row first parts) scope = and_make (all_made parts scope) (λ xs. pure (Row (map id_in xs)))
   node_made functions (Expr-F.Quantified first which x w n test) scope = quantified_made which n.value (at_number test scope x.text w.value)

@@ -25,7 +25,7 @@ ghost use Rattle.ygg_sym_runs.specs.Seen.{
 };
 
 use crate::held::{SymBinding, bound, copied, value_of};
-use crate::made::{filled, id_in, operated, part, row, word};
+use crate::made::{filled, id_in, operated, part, row, small, word};
 use std::alloc::Global;
 use ygg_shape::{Bank, Book, Id, NoMemory, Node, SymValue, merge};
 use ygg_syntax::lists;
@@ -117,7 +117,7 @@ impl<'a, 'n> SymEvaluator<'a, 'n> {
             }
             Expr::Not(_, a) => {
                 let a = self.value_by(bank, book, lists::expr::get(a))?;
-                word(bank, book, Node::Not { a: id_in(&a) })
+                small(bank, book, Node::Not { a: id_in(&a) })
             }
             Expr::At(whole, _, i) => {
                 let whole = self.value_by(bank, book, lists::expr::get(whole))?;
@@ -133,7 +133,7 @@ impl<'a, 'n> SymEvaluator<'a, 'n> {
             Expr::Resize(_, a, w) => {
                 let a = self.value_by(bank, book, lists::expr::get(a))?;
                 let width = w.value as u8;
-                word(
+                small(
                     bank,
                     book,
                     Node::Resize {

@@ -3,13 +3,14 @@
 ghost use Rattle.std.specs.Prelude.{◌≡◌, IfOk, OnOk, map, replicate};
 ghost use Rattle.ygg_shape.specs.ygg_bank.Nodes.{CanMake, Extends, IsBank, Stands};
 ghost use Rattle.ygg_shape.specs.ygg_shape_cells.declared.terms.SymValue.TheVariants.{Row as AsRow};
-ghost use Rattle.ygg_sym_runs.specs.Exprs.{applied, equal_made, id_in, part_made, unequal_made, word_made};
+ghost use Rattle.ygg_sym_runs.specs.Exprs.{applied, equal_made, id_in, part_made, small_made, unequal_made, word_made};
 ghost use Rattle.ygg_sym_runs.specs.ExpressionMeaning.{SomeShape};
 ghost use Rattle.ygg_sym_runs.specs.Seen.{CanOperate};
 ghost use Rattle.ygg_shape.specs.ygg_shape_cells.Terms.{AreAlike};
 
 use std::alloc::Global;
 use ygg_shape::{Bank, Book, Id, NoMemory, Node, SymRow, SymValue, equal, select, select_word};
+use ygg_shape_nodes::make_small;
 use ygg_value::Op;
 
 /// The term that a value is; the first term for a row or a table.
@@ -34,6 +35,18 @@ pub fn word<B: Book>(bank: &mut Bank, book: &B, node: Node) -> Result<SymValue, 
     Ok(SymValue::Word(term))
 }
 
+/// A word, by the rules on nodes. Its only error is out of memory.
+pub fn small<B: Book>(bank: &mut Bank, book: &B, node: Node) -> Result<SymValue, NoMemory>
+    requires { CanMake bank.old node }
+    ensures nodes { OnOk result (bank.new ≡ (small_made (B.kinds book.now) node bank.old).nodes) }
+    ensures form { IfOk result (λ x. x ≡ (small_made (B.kinds book.now) node bank.old).value) }
+    ensures grows { Extends bank.old bank.new }
+    ensures bank { IsBank bank.new }
+{
+    let term = make_small(bank, book, node)?;
+    Ok(SymValue::Word(term))
+}
+
 /// What an operation gives of two values. Its only error is out of memory.
 pub fn operated<B: Book>(
     bank: &mut Bank,
@@ -54,7 +67,7 @@ pub fn operated<B: Book>(
         _ => {
             let a = id_in(one);
             let b = id_in(two);
-            word(bank, book, Node::Bin { op, a, b })
+            small(bank, book, Node::Bin { op, a, b })
         }
     }
 }
@@ -90,7 +103,7 @@ fn differing<B: Book>(
     ensures bank { IsBank bank.new }
 {
     let a = equal(bank, book, one, two)?;
-    word(bank, book, Node::Not { a })
+    small(bank, book, Node::Not { a })
 }
 
 /// The word or the row at a place of a value; a word stays. Its only error is out of memory.

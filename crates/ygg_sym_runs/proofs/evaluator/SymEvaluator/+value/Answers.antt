@@ -26,7 +26,7 @@ use Rattle.ygg_eval_expr.proofs.Weighed.{
   rest_lighter,
 }
 use Rattle.ygg_sym_runs.specs.Names.{SymEnv, sym_look_up, sym_bind}
-use Rattle.ygg_sym_runs.specs.Exprs.{word_made, number_made, part_made, joined, sym_value}
+use Rattle.ygg_sym_runs.specs.Exprs.{word_made, small_made, number_made, part_made, joined, sym_value}
 use Rattle.ygg_sym_runs.specs.Seen.{SymKnown, CanTerm, env_of, known_of, terms_called, terms_in, joining, start_of, test_at}
 use Rattle.ygg_sym_runs.proofs.ExpressionPlaced.{placed, body_parts}
 use Rattle.ygg_sym_runs.proofs.Terms.{can_later}
@@ -242,8 +242,8 @@ value_by-value_by-requires-in-Not g t c κs within =
     let can = not_asks kinds k e arm.field-0 arm.a c.get-in-Not.result.now old asked.bank asked.can arm.is c.get-in-Not.ensures in
     (omega arith, (search rules, (asked.bank, can)))
 
-pub value_by-word-requires-in-Not : goal.value_by-word-requires-in-Not
-value_by-word-requires-in-Not g t c =
+pub value_by-small-requires : goal.value_by-small-requires
+value_by-small-requires g t c =
     let arm = c.in-Not in let one = c.in_ok-a-in-Not in
     let kinds = g.B.Book.kinds c.args.book.now in let k = known_of c.args.self.now in let old = c.args.bank.now in let e = c.args.e.now in
     subst (Stands c.value_by-in-Not.new.bank) (sym c.id_in.ensures)
@@ -254,13 +254,13 @@ pub value_by-returns-in_ok-a-in-Not : goal.value_by-returns-in_ok-a-in-Not
 value_by-returns-in_ok-a-in-Not g t c =
     let arm = c.in-Not in let mid = c.value_by-in-Not.new.bank in let one = c.in_ok-a-in-Not in
     let kinds = g.B.Book.kinds c.args.book.now in let k = known_of c.args.self.now in let old = c.args.bank.now in let e = c.args.e.now in
-    let same = ap (λ z. word_made kinds (node.Not z) mid) c.id_in.ensures ∙ complement_gives kinds k e arm.field-0 arm.a c.get-in-Not.result.now old
+    let same = ap (λ z. small_made kinds (node.Not z) mid) c.id_in.ensures ∙ complement_gives kinds k e arm.field-0 arm.a c.get-in-Not.result.now old
     mid one.a arm.is c.get-in-Not.ensures (gave kinds k one.ensures.nodes one.ensures.form) in
     record {
-      nodes = nodes_as c.word-in-Not.result c.word-in-Not.new.bank _ _ same c.word-in-Not.ensures.nodes;
-      form = value_as c.word-in-Not.result _ _ same c.word-in-Not.ensures.form;
-      grows = extends_both old mid c.word-in-Not.new.bank c.value_by-in-Not.ensures.grows c.word-in-Not.ensures.grows;
-      bank = c.word-in-Not.ensures.bank;
+      nodes = nodes_as c.small.result c.small.new.bank _ _ same c.small.ensures.nodes;
+      form = value_as c.small.result _ _ same c.small.ensures.form;
+      grows = extends_both old mid c.small.new.bank c.value_by-in-Not.ensures.grows c.small.ensures.grows;
+      bank = c.small.ensures.bank;
     }
 
 -- a part of a row or a table
@@ -398,8 +398,8 @@ value_by-overflow_cast-width-in-Resize g t c =
     let most = within.1 in
     omega arith
 
-pub value_by-word-requires-in-Resize : goal.value_by-word-requires-in-Resize
-value_by-word-requires-in-Resize g t c =
+pub value_by-small-requires-in-Resize : goal.value_by-small-requires-in-Resize
+value_by-small-requires-in-Resize g t c =
     let arm = c.in-Resize in let one = c.in_ok-a-in-Resize in let asked = c.requires in
     let kinds = g.B.Book.kinds c.args.book.now in let k = known_of c.args.self.now in let old = c.args.bank.now in let e = c.args.e.now in
     let within = resize_width kinds k e arm.field-0 arm.a arm.w old asked.bank asked.can arm.is in (
@@ -413,13 +413,13 @@ pub value_by-returns-in_ok-a-in-Resize : goal.value_by-returns-in_ok-a-in-Resize
 value_by-returns-in_ok-a-in-Resize g t c =
     let arm = c.in-Resize in let mid = c.value_by-in-Resize.new.bank in let one = c.in_ok-a-in-Resize in
     let kinds = g.B.Book.kinds c.args.book.now in let k = known_of c.args.self.now in let old = c.args.bank.now in let e = c.args.e.now in
-    let same = ap (λ z. word_made kinds (node.Resize z arm.w.value) mid) c.id_in-in-Resize.ensures ∙ resized_gives kinds k e arm.field-0 arm.a arm.w
+    let same = ap (λ z. small_made kinds (node.Resize z arm.w.value) mid) c.id_in-in-Resize.ensures ∙ resized_gives kinds k e arm.field-0 arm.a arm.w
     c.get-in-Resize.result.now old mid one.a arm.is c.get-in-Resize.ensures (gave kinds k one.ensures.nodes one.ensures.form) in
     record {
-      nodes = nodes_as c.word-in-Resize.result c.word-in-Resize.new.bank _ _ same c.word-in-Resize.ensures.nodes;
-      form = value_as c.word-in-Resize.result _ _ same c.word-in-Resize.ensures.form;
-      grows = extends_both old mid c.word-in-Resize.new.bank c.value_by-in-Resize.ensures.grows c.word-in-Resize.ensures.grows;
-      bank = c.word-in-Resize.ensures.bank;
+      nodes = nodes_as c.small-in-Resize.result c.small-in-Resize.new.bank _ _ same c.small-in-Resize.ensures.nodes;
+      form = value_as c.small-in-Resize.result _ _ same c.small-in-Resize.ensures.form;
+      grows = extends_both old mid c.small-in-Resize.new.bank c.value_by-in-Resize.ensures.grows c.small-in-Resize.ensures.grows;
+      bank = c.small-in-Resize.ensures.bank;
     }
 
 -- `fill`
