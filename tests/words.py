@@ -130,6 +130,18 @@ def unexpected():
     yield line(11, "    x = (a b);"), "3 11:12", ["expected an operator, `(` or `[`"]
     yield PAIR.rstrip("}\n") + "\n", "3 45:1", ["expected `settled`, `maybe` or `}`; the file ends too early"]
     yield "", "3 1:1", ["expected `yggdrasil`"]
+    yield line(33, "    if (c) {"), "3 33:10", ["expected an operator, `(` or `[`; brackets hold two operands and their operator: (a == b)"]
+    yield line(15, "    flush();"), "3 15:10", ["expected `[` or `=`; an operation is called with `call`: call write(0:8, r);"]
+    yield line(25, "  op get(i : word 1) -> word 8 {"), "3 25:32", ["expected `spec`\n"]
+    yield line(26, "    return pick(i, x, y) + 1;"), "3 26:26", ["expected `[` or `;`; each operator has brackets"]
+
+
+def unknown():
+    """Names that mean nothing where they stand, each with its refusal and what may help."""
+    yield STACK.replace("IMPL", "let first = call get(); m = fisrt;").replace("RELATE", "relate 1:1;"), "4 25:29", ["did you mean first? state is seen in spec"]
+    yield STACK.replace("IMPL", "m = get();").replace("RELATE", "relate 1:1;"), "4 25:5", ["an operation is called with `call`: let r = call read(0:8);"]
+    yield STACK.replace("IMPL", "call write(m, row(m, m));").replace("RELATE", "relate 1:1;"), "4 25:6", ["`call` takes an operation of the layer below"]
+    yield line(26, "    return true;"), "4 26:12", ["1:1 is true, and 0:1 is false"]
 
 
 def refused_layers():
@@ -141,7 +153,7 @@ def refused_layers():
 
 def texts():
     """Cases of texts that are refused: the words, the files, the refusal, and what is told."""
-    for text, refusal, told in (*refused_files(), *mistyped(), *unexpected(), *refused_layers()):
+    for text, refusal, told in (*refused_files(), *mistyped(), *unexpected(), *unknown(), *refused_layers()):
         yield ["verify", "file"], {"file": text}, refusal, told
     script = lambda text: {"file": PAIR, "script": text}
     play = ["play", "file", "script"]

@@ -4,6 +4,9 @@
 ghost use Rattle.std.specs.Prelude.{◌≡◌, [], ◌∷◌};
 ghost use Rattle.ygg_rules.specs.declared.rule.RuleKind.TheVariants as kind;
 
+mod calls;
+
+use crate::calls::tell_calls;
 use std::env;
 use std::io::ErrorKind;
 use std::process::ExitCode;
@@ -57,6 +60,7 @@ fn run_under(rt: &HostRuntime, words: &[Text], rules: &RuleBook) -> Status
         &mut sink,
     );
     tell(rt, words, status, &mut library, &device, &sink);
+    tell_calls(rt, words, sink.last(), rules, &mut library);
     status
 }
 

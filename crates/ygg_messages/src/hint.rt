@@ -1,6 +1,6 @@
 //! What may help where something is refused, by its number and what stands there.
 
-use crate::layer_hint::{no_token, not_ascii, not_here};
+use crate::layer_hint::{no_token, not_ascii, not_here, not_known};
 use std::alloc::{AllocError, Global};
 use ygg_base::Refusal;
 use ygg_messages_text::{line_of, parted, types_at};
@@ -71,8 +71,6 @@ fn value_hint(line: &[u8]) -> &'static str {
 /// What may help by the number alone.
 fn number_hint(number: u8) -> &'static str {
     match number {
-        4 =>
-            "state is seen in spec, memory and arguments in impl, `low` in relate, always and settled alone",
         5 => "a name means one thing in all that can see it, arguments and `let` too",
         7 => "r[0:1] is a word of a row, row(v) a row of a word, and (a == b) a bit",
         6 => "resize(e, 8) makes a word 8 bits wide, 1:8 is 1 in 8 bits, and (a == b) has 1 bit",
@@ -100,6 +98,7 @@ pub fn hint(alloc: Global, text: &[u8], refusal: Refusal) -> Result<String, Allo
         1 => not_ascii(at),
         2 => no_token(at),
         3 => return not_here(alloc, before, at),
+        4 => return not_known(alloc, text, before, at),
         6 | 7 => return type_hint(alloc, text, refusal),
         31 => schedule_hint(line, refusal.line, is_last),
         41 => script_hint(line, refusal.line, is_last),

@@ -1,8 +1,9 @@
 //! What may be meant where a layer file is refused, by what stands round the place: mostly habits from other languages.
 
 use std::alloc::{AllocError, Global};
+use std::str;
 use ygg_messages_text::{
-    goes_on_with, is_of_word, last_code, line_before, wants_semicolon, word_of,
+    goes_on_with, is_of_word, last_code, line_before, nearest_declared, wants_semicolon, word_of,
 };
 
 /// What may help where a byte isn't ASCII.
@@ -78,8 +79,15 @@ fn ends_with_bare_number(line: &[u8]) -> bool {
     digits > 0 && !is_part
 }
 
-/// What may help at a token that no file goes on with, by the code before it in its line.
-fn token_hint(line: &[u8], at: &[u8]) -> &'static str {
+/// What may help at a token that no file goes on with, by the code before it in its line and by what may stand there, where that is known.
+fn token_hint(line: &[u8], at: &[u8], expected: &str) -> &'static str {
+    let wants_width = expected.is_empty() || expected.contains("`:`");
+    if at.starts_with(b"x") && line.ends_with(b"0") {
+        return "numbers are decimal: 16:8 and not 0x10";
+    }
+    if wants_width && ends_with_bare_number(line) {
+        return "a number has a width: 1:8 is 1 in 8 bits";
+    }
     if begins_with_one(at, &OPERATORS) {
         return operator_hint(line, at);
     }
@@ -89,11 +97,11 @@ fn token_hint(line: &[u8], at: &[u8]) -> &'static str {
     if word_of(at) == b"if".as_slice() && line.ends_with(b"else") {
         return "there is no `else if`: else { if (a == b) { .. } }";
     }
-    if at.starts_with(b"x") && line.ends_with(b"0") {
-        return "numbers are decimal: 16:8 and not 0x10";
+    if at.starts_with(b")") && expected.contains("an operator") {
+        return "brackets hold two operands and their operator: (a == b); a value alone has none";
     }
-    if ends_with_bare_number(line) {
-        return "a number has a width: 1:8 is 1 in 8 bits";
+    if at.starts_with(b"(") {
+        return "an operation is called with `call`: call write(0:8, r); let r = call read(0:8);";
     }
     if PARTS.iter().any(|part| word_of(at) == *part) {
         return "a layer's parts stand in this order: state, start, memory, format, op, crash, tick, recover, relate, always, settled, maybe";
@@ -104,6 +112,37 @@ fn token_hint(line: &[u8], at: &[u8]) -> &'static str {
     ""
 }
 
+/// What may help where a name means nothing, by its kind alone.
+fn name_hint(line: &[u8], word: &[u8], at: &[u8]) -> &'static str {
+    let rest = at.get(word.len()..).unwrap_or(&[]);
+    if word == b"true".as_slice() || word == b"false".as_slice() {
+        return "1:1 is true, and 0:1 is false";
+    }
+    if line.ends_with(b"call") {
+        return "`call` takes an operation of the layer below, or of the disk: read, write, flush";
+    }
+    if rest.starts_with(b"(") {
+        return "a definition stands before what uses it, and an operation is called with `call`: let r = call read(0:8);";
+    }
+    "state is seen in spec, memory and arguments in impl, `low` in relate, always and settled alone"
+}
+
+/// What may help where a name means nothing: a name of the file that may be meant, and where names are seen.
+pub fn not_known(
+    alloc: Global,
+    text: &[u8],
+    before: &[u8],
+    at: &[u8],
+) -> Result<String, AllocError> {
+    let word = word_of(at);
+    let hint = name_hint(line_before(before).trim_ascii(), word, at);
+    let near = nearest_declared(alloc, text, str::from_utf8(word).unwrap_or(""))?;
+    if near.is_empty() {
+        return format!(in alloc; "{hint}");
+    }
+    format!(in alloc; "did you mean {near}? {hint}")
+}
+
 /// What may help where no file goes on with a token: what may stand there, and what may be meant.
 pub fn not_here(alloc: Global, before: &[u8], at: &[u8]) -> Result<String, AllocError> {
     let (_, number) = last_code(before);
@@ -112,7 +151,7 @@ pub fn not_here(alloc: Global, before: &[u8], at: &[u8]) -> Result<String, Alloc
         return format!(in alloc; "expected `;` after line {number}");
     }
     let expected = goes_on_with(alloc, before)?;
-    let hint = token_hint(line, at);
+    let hint = token_hint(line, at, expected.as_str());
     if expected.is_empty() || hint.is_empty() {
         let word = if expected.is_empty() { "" } else { "expected " };
         return format!(in alloc; "{word}{expected}{hint}");

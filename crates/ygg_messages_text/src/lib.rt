@@ -13,6 +13,6 @@ mod types;
 mod written;
 
 pub use expected::{goes_on_with, wants_semicolon};
-pub use names::nearest_name;
+pub use names::{nearest_declared, nearest_name};
 pub use place::{code_of, is_of_word, last_code, line_before, line_of, parted, word_of};
 pub use types::types_at;

@@ -1,10 +1,10 @@
-//! The names of a file's obligations, and the one that a word is nearest to.
+//! The names of a file's obligations, and those that it declares: the one that a word is nearest to.
 
-use crate::tokens::{name_at, tokens_in};
+use crate::tokens::{before, behind, is_symbol, keyword_at, name_at, tokens_in};
 use std::alloc::{AllocError, Global};
 use std::str;
 use strsim::osa_distance;
-use ygg_base::{Keyword, Mark, Token};
+use ygg_base::{Keyword, Mark, Symbol, Token};
 
 /// The longest name that a word is compared with, and the longest word.
 const LONGEST: usize = 200;
@@ -114,4 +114,41 @@ pub fn nearest_name(alloc: Global, text: &[u8], word: &str) -> Result<String, Al
     }
     let Met { count, nearest, .. } = met;
     format!(in alloc; "of its {count} the nearest is \"{nearest}\"; ")
+}
+
+/// The name that is declared at a place: a type or a width follows it, or it follows a keyword that declares one; no text where none is.
+fn declared_there(all: &[Token], place: usize) -> &str {
+    let keyword = match before(place, 1) {
+        Some(at) => keyword_at(all, at),
+        None => None,
+    };
+    let is_named = matches!(keyword, Some(Keyword::Let | Keyword::Def | Keyword::Op));
+    match name_at(all, place) {
+        Some(name) if is_named || is_symbol(all, behind(place, 1), Symbol::Colon) => {
+            str::from_utf8(name).unwrap_or("")
+        }
+        _ => "",
+    }
+}
+
+/// A name that a file declares and that a word may have been meant to be, at most one slip for three letters and two in all away; no text where there is none.
+pub fn nearest_declared(alloc: Global, text: &[u8], word: &str) -> Result<String, AllocError> {
+    let mut nearest = format!(in alloc; "")?;
+    let mut least = (word.len() / 3).min(2).saturating_add(1);
+    let Some(tokens) = tokens_in(alloc, text) else {
+        return Ok(nearest);
+    };
+    let all = tokens.items.as_slice();
+    for place in 0..all.len() {
+        let name = declared_there(all, place);
+        if name.is_empty() || name == word || name.len() > LONGEST || word.len() > LONGEST {
+            continue;
+        }
+        let slips = osa_distance(alloc, word, name)?;
+        if slips < least {
+            least = slips;
+            nearest = format!(in alloc; "{name}")?;
+        }
+    }
+    Ok(nearest)
 }
