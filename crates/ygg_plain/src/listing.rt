@@ -175,12 +175,7 @@ pub fn kept_writes(alloc: Global, schedule: &Schedule) -> Result<Vec<Step>, NoMe
 }
 
 /// Adds a stop, with as many picks as a run on a disk takes to it at most, if the layer stands on the disk.
-fn add_stop(
-    list: &mut Vec<Step>,
-    within: bool,
-    event: u64,
-    on_disk: bool,
-) -> Result<(), NoMemory> {
+fn add_stop(list: &mut Vec<Step>, within: bool, event: u64, on_disk: bool) -> Result<(), NoMemory> {
     let most = if on_disk {
         event.saturating_add(within as u64)
     } else {
@@ -200,7 +195,11 @@ pub fn earlier_stops(
     let Some(stop) = schedule.stop else {
         return Ok(list);
     };
-    let most = if stop.event < EARLY { stop.event } else { EARLY };
+    let most = if stop.event < EARLY {
+        stop.event
+    } else {
+        EARLY
+    };
     for event in 0..most {
         add_stop(&mut list, false, event, on_disk)?;
     }

@@ -7,7 +7,10 @@ ghost use Rattle.ygg_plain.specs.Like.{AreLike};
 
 use std::alloc::Global;
 use ygg_list::{Duplicate, NoMemory};
-use ygg_value::{Row, Shape, Table, Value, Values, Word, row_read, row_write, shape_of, table_read, table_write, zero_row};
+use ygg_value::{
+    Row, Shape, Table, Value, Values, Word, row_read, row_write, shape_of, table_read, table_write,
+    zero_row,
+};
 
 /// The values of a schedule that stand together.
 #[derive(Clone, Copy, PartialEq, Eq, Drop)]
@@ -61,7 +64,9 @@ impl Lowering {
         match self.words {
             Words::Equal(number) => bits == number,
             Words::Whole(group, value) => at.group == group && at.value == value,
-            Words::One(place) => at.group == place.group && at.value == place.value && at.word == place.word,
+            Words::One(place) => at.group == place.group
+                && at.value == place.value
+                && at.word == place.word,
             Words::Below(word) => at.group == Group::Low && at.word == word,
         }
     }

@@ -92,7 +92,9 @@ fn choices_of(layer: &Layer, operation: Option<&Operation>, kind: CaseKind) -> u
         (CaseKind::Call, Some(operation)) => choices(&operation.spec),
         (CaseKind::Cut, Some(operation)) => match &operation.on_crash {
             Some(block) => choices(block).saturating_add(crash),
-            None => choices(&operation.spec).saturating_add(1).saturating_add(crash),
+            None => choices(&operation.spec)
+                .saturating_add(1)
+                .saturating_add(crash),
         },
         (CaseKind::CutTick, _) | (CaseKind::Idle, _) => crash,
         _ => 0,

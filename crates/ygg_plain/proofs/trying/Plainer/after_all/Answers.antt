@@ -19,9 +19,9 @@ loop-step-preserved c =
     let f = c.args.self.now.typed.now.file in
     let which = c.args.self.now.case in
     elim c.if-branch.branch [
-      then-branch w ↦
-        subst (λ (x : Schedule). IsPlainOf f which c.args.schedule x) (sym w.plain-is)
-        (further f which c.args.schedule c.loop-step.plain c.in_ok-tried.tried c.loop-step.invariant
-        (stepped f which c.loop-step.plain c.in_ok-tried.tried c.in_ok-tried.ensures (c.in_ok-is_violated.ensures w.if-branch.true)))
-    | else-branch w ↦ subst (λ (x : Schedule). IsPlainOf f which c.args.schedule x) (sym w.plain-is) c.loop-step.invariant
+      | then-branch w ↦
+          subst (λ (x : Schedule). IsPlainOf f which c.args.schedule x) (sym w.plain-is)
+          (further f which c.args.schedule c.loop-step.plain c.in_ok-tried.tried c.loop-step.invariant
+          (stepped f which c.loop-step.plain c.in_ok-tried.tried c.in_ok-tried.ensures (c.in_ok-is_violated.ensures w.if-branch.true)))
+      | else-branch w ↦ subst (λ (x : Schedule). IsPlainOf f which c.args.schedule x) (sym w.plain-is) c.loop-step.invariant
     ]
