@@ -1,5 +1,5 @@
 -- Schedules that may stand in the place of others.
-use Rattle.std.proofs.Common.{◌≡◌, Bool, true, Result, Ok, Err, IfOk, refl, ◌∙◌}
+use Rattle.std.proofs.Common.{Result, Ok, Err, IfOk, refl, ◌∙◌}
 use Rattle.ygg_syntax.specs.declared.tree.File.{File}
 use Rattle.ygg_replay.specs.ygg_sched.declared.case.Case.{Case}
 use Rattle.ygg_replay.specs.ygg_sched.declared.schedule.Schedule.{Schedule}

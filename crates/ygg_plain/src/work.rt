@@ -4,7 +4,7 @@ use std::alloc::Global;
 use ygg_list::NoMemory;
 use ygg_replay::{Schedule, Typed};
 use ygg_sched::{Case, CaseKind};
-use ygg_syntax::tree::{Block, Layer, Operation};
+use ygg_syntax::tree::{Layer, Operation};
 use ygg_syntax::{Weights, choices, lists};
 use ygg_value::{Shape, Values, shape_of};
 
@@ -111,14 +111,6 @@ fn weight_of_layer(known: &Weights<'_>, layer: &Layer) -> u64 {
         sum = sum.saturating_add(known.expression(e));
     }
     sum.saturating_add(known.block(&layer.recover))
-}
-
-/// The weight of a block, if there is one.
-fn weight_of_block(known: &Weights<'_>, block: Option<&Block>) -> u64 {
-    match block {
-        Some(block) => known.block(block),
-        None => 0,
-    }
 }
 
 /// How much work a replay of a schedule is: that of its runs, and for each list of the specification's picks that of its step and of the relation.

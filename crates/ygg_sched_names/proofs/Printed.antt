@@ -1,11 +1,9 @@
 -- The text of a schedule that fits its obligation and violates it is read as this schedule, and shows the obligation's name.
 use Rattle.std.proofs.Common.{◌≡◌, ℕ, List, Some, is_some, inr, refl, sym, ap, subst, ◌∙◌}
-use Rattle.std.specs.Prelude.{false}
 use Rattle.ygg_base.specs.declared.status.Status.TheVariants.{Refuted}
 use Rattle.ygg_syntax.specs.Files.{IsDerived}
 use Rattle.ygg_syntax.specs.declared.tree.File.{File}
 use Rattle.ygg_accept.specs.ygg_type_rules.Files.{IsTyped}
-use Rattle.ygg_replay.specs.ygg_meaning.Obligations.{Obligation}
 use Rattle.ygg_replay.specs.ygg_meaning.Refines.{machine_below}
 use Rattle.ygg_replay.specs.ygg_meaning.Replayed.{Shows}
 use Rattle.ygg_replay.specs.ygg_meaning.Claims.{Claim}

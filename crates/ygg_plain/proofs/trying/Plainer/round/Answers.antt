@@ -1,4 +1,3 @@
-use Rattle.ygg_plain.specs.Plain.{IsPlainOf}
 use Rattle.ygg_plain.proofs.Standing.{answered, further}
 use Rattle.ygg_plain.proofs.trying.Plainer.round.Goals as goal
 
