@@ -11,7 +11,8 @@ use Rattle.ygg_shape_words.specs.ygg_bank.Making.{made}
 use Rattle.ygg_shape_words.specs.ygg_bank.declared.node.Id.{Id}
 use Rattle.ygg_shape_words.specs.ygg_bank.declared.node.Node.{Node}
 use Rattle.ygg_shape_words.specs.ygg_bank.declared.node.Node.TheVariants.{Bin}
-use Rattle.ygg_value.specs.declared.operation.Op.TheVariants.{Mul}
+use Rattle.ygg_value.specs.declared.operation.Op.TheVariants.{Add, Mul}
+use Rattle.ygg_shape_words.specs.Picking.{picked}
 use Rattle.ygg_shape_sums.specs.Parts.{Sum, part, merged}
 use Rattle.ygg_shape_sums.specs.Readings.{read}
 use Rattle.ygg_shape_sums.specs.Gathers.{parts_of, counted, with_all, gathered, found_within}
@@ -19,12 +20,13 @@ use Rattle.ygg_shape_sums.specs.Reduces.{reduced_sum}
 use Rattle.ygg_shape_sums.specs.Splits.{split_of}
 use Rattle.ygg_shape_sums.specs.Products.{Product}
 use Rattle.ygg_shape_sums.specs.Remains.{times_all, with_term, with_terms, vanishes_left}
-use Rattle.ygg_shape_sums.specs.Sharing.{sharing_of, shared_as, shared_within, inside_as, shared_inside}
+use Rattle.ygg_shape_sums.specs.Sharing.{sharing_of, more_where, shared_as, shared_within, inside_as, shared_inside}
 use Rattle.ygg_shape_sums.specs.Sides.{share, more, all_more}
 use Rattle.ygg_shape_sums.specs.Equates.{Found, IsFound, found, split_as, vanishes_within}
 use Rattle.ygg_shape_sums.specs.declared.parts.Summand.{Summand}
 use Rattle.ygg_shape_sums.specs.declared.reading.Fact.{Fact}
 use Rattle.ygg_shape_sums.specs.declared.sharing.Sharing.{Sharing}
+use Rattle.ygg_shape_sums.specs.declared.sharing.Sharing.TheVariants as sharing
 use Rattle.ygg_shape_sums.specs.declared.sharing.TheConstants.{SHARE_LIMIT}
 
 -- the item at a place, and those after it
@@ -271,3 +273,28 @@ inside_more kinds w zero a nodes r l e = absurd (omega arith)
 inside_more kinds w (suc depth) a nodes r l e =
     let f : suc depth - 1 ≡ depth = omega arith in
     ap (λ z. inside_as kinds w (shared_inside kinds w z) a r nodes) f ∙ ap (λ z. inside_as kinds w (shared_inside kinds w depth) a z nodes) e
+
+-- a step with sums in place of picks: what was made of the operand of a sum, of what more is added to, and of both words of a pick
+module _ (kinds : List RuleKind) (w depth : ℕ) (a : Id) (old first : List Node) (l : 0 < depth) where
+  pub beside_goes : (s p one : Id) → sharing.Beside s p ≡ sharing_of old (slice_get old a.0) → first ≡ (shared_within kinds w (depth - 1) p old).nodes →
+      one ≡ (shared_within kinds w (depth - 1) p old).value → made kinds (Bin Add s one) first ≡ shared_within kinds w depth a old
+  beside_goes s p one e n f =
+      goes (shared_within kinds w (depth - 1) p) (λ q. made kinds (Bin Add s q)) old first one n f
+      ∙ shared_more kinds w depth a old (sharing.Beside s p) l e
+
+  pub more_goes : (t : Id) (d : Bool) (s m one : Id) → sharing.More t d s m ≡ sharing_of old (slice_get old a.0) →
+      first ≡ (shared_within kinds w (depth - 1) s old).nodes → one ≡ (shared_within kinds w (depth - 1) s old).value →
+      more_where kinds w t d m one first ≡ shared_within kinds w depth a old
+  more_goes t d s m one e n f =
+      goes (shared_within kinds w (depth - 1) s) (more_where kinds w t d m) old first one n f
+      ∙ shared_more kinds w depth a old (sharing.More t d s m) l e
+
+  pub halves_go : (t x y one two : Id) (second : List Node) → sharing.Either t x y ≡ sharing_of old (slice_get old a.0) →
+      first ≡ (shared_inside kinds w (depth - 1) x old).nodes → one ≡ (shared_inside kinds w (depth - 1) x old).value →
+      second ≡ (shared_inside kinds w (depth - 1) y first).nodes → two ≡ (shared_inside kinds w (depth - 1) y first).value →
+      picked kinds t one two second ≡ shared_inside kinds w depth a old
+  halves_go t x y one two second e n f m g =
+      let next = shared_inside kinds w (depth - 1) in
+      goes (next y) (λ q. picked kinds t one q) first second two m g
+      ∙ goes (next x) (λ p. and_make (next y) (λ q. picked kinds t p q)) old first one n f
+      ∙ inside_more kinds w depth a old (sharing.Either t x y) l e

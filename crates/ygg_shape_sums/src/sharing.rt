@@ -187,7 +187,9 @@ pub fn shared_inside<B: Book>(
             let two = shared_inside(bank, book, width, depth - 1, no)?;
             pick(bank, book, test, one, two)
         }
-        _ => shared_within(bank, book, width, SHARE_LIMIT, term),
+        Sharing::Apart => shared_within(bank, book, width, SHARE_LIMIT, term),
+        Sharing::Beside { .. } => shared_within(bank, book, width, SHARE_LIMIT, term),
+        Sharing::More { .. } => shared_within(bank, book, width, SHARE_LIMIT, term),
     }
 }
 

@@ -1,5 +1,3 @@
-use Rattle.std.proofs.Common.{Some}
-use Rattle.ygg_value.specs.declared.operation.Op.TheVariants.{Add}
 use Rattle.ygg_shape_words.specs.ygg_bank_proofs_Widths.{has_width, stands}
 use Rattle.ygg_shape_words.specs.ygg_bank.Nodes.{width_at, widths_of}
 use Rattle.ygg_shape_words.proofs.Children.{bin_stands, pick_children}
@@ -7,13 +5,13 @@ use Rattle.ygg_shape_sums.proofs.sharing.sharing_of.Goals as goal
 
 pub node-requires-in-Bin-Add-default-default : goal.node-requires-in-Bin-Add-default-default
 node-requires-in-Bin-Add-default-default c =
-    let p = bin_stands c.args.bank.now c.args.term.0 Add c.in-Bin-Add-default-default.a c.in-Bin-Add-default-default.b c.requires.bank.ordered
+    let p = bin_stands c.args.bank.now c.args.term.0 c.in-Bin-Add-default-default.op c.in-Bin-Add-default-default.a c.in-Bin-Add-default-default.b c.requires.bank.ordered
     c.in-Bin-Add-default-default.ensures.there in
     p.0
 
 pub node-requires-in-Bin-Add-default-default-2 : goal.node-requires-in-Bin-Add-default-default-2
 node-requires-in-Bin-Add-default-default-2 c =
-    let p = bin_stands c.args.bank.now c.args.term.0 Add c.in-Bin-Add-default-default.a c.in-Bin-Add-default-default.b c.requires.bank.ordered
+    let p = bin_stands c.args.bank.now c.args.term.0 c.in-Bin-Add-default-default.op c.in-Bin-Add-default-default.a c.in-Bin-Add-default-default.b c.requires.bank.ordered
     c.in-Bin-Add-default-default.ensures.there in
     p.1
 
