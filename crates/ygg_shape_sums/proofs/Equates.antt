@@ -27,22 +27,26 @@ use Rattle.ygg_shape_words.specs.Same.{same_words, IsSame}
 use Rattle.ygg_shape_sums.proofs.Cancels.{cancels_within_is}
 use Rattle.ygg_shape_sums.proofs.Splits.{split_digit}
 use Rattle.ygg_shape_sums.proofs.Fit.{two_fit, parts_wider, facts_wider, facts_more}
-use Rattle.ygg_shape_sums.proofs.Keeps.{vanishes_within_grows, compared_words_grows, equated_words_grows}
+use Rattle.ygg_shape_sums.proofs.Keeps.{shared_inside_grows, vanishes_within_grows, compared_words_grows, equated_words_grows}
 use Rattle.ygg_shape_sums.proofs.Modulo.{Like, like, like_both, like_add, less_and, sides_equal}
 use Rattle.ygg_shape_sums.proofs.Remains.{vanishes_left_is}
 use Rattle.ygg_shape_sums.proofs.Reduces.{sum_fits, reduced_sum_is}
+use Rattle.ygg_shape_sums.proofs.Shared.{shared_inside_is, shared_number}
 use Rattle.ygg_shape_sums.proofs.Worth.{bits, worth, FactsHold}
 use Rattle.ygg_shape_sums.specs.Cancels.{has_product, cancels_within, cancels}
 use Rattle.ygg_shape_sums.specs.Parts.{Sum, PartsFit, part}
 use Rattle.ygg_shape_sums.specs.Readings.{FactsFit, fact}
+use Rattle.ygg_shape_sums.specs.Sharing.{shared_inside}
 use Rattle.ygg_shape_sums.specs.Splits.{split_of}
 use Rattle.ygg_shape_sums.specs.Reduces.{reduced_sum}
-use Rattle.ygg_shape_sums.specs.Equates.{Found, Step, split_as, vanishes_within, vanishes_by, difference, are_sums, splits, subtracted}
-use Rattle.ygg_shape_sums.specs.Equates.{compared_words, equated_words}
+use Rattle.ygg_shape_sums.specs.Equates.{Found, Step, split_as, vanishes_within, vanishes_by, difference, are_sums, reads_product}
+use Rattle.ygg_shape_sums.specs.Equates.{shared_difference, subtracted_at, subtracted, compared_words, equated_words}
 use Rattle.ygg_shape_sums.specs.declared.cancelling.TheConstants.{CANCEL_LIMIT}
 use Rattle.ygg_shape_sums.specs.declared.gathering.TheConstants.{READ_LIMIT}
 use Rattle.ygg_shape_sums.specs.declared.reading.Fact.{Fact}
+use Rattle.ygg_shape_sums.specs.declared.equating.TheConstants.{EQUATE_LIMIT, PRODUCT_LIMIT}
 use Rattle.ygg_shape_sums.specs.declared.reading.TheConstants.{LESS_ONE}
+use Rattle.ygg_shape_sums.specs.declared.sharing.TheConstants.{INSIDE_LIMIT}
 
 pub difference_fits : (nodes : List Node) (w : ℕ) (a b : Id) → HasWidth nodes a w → HasWidth nodes b w → PartsFit nodes w (difference a b).parts
 difference_fits nodes w a b p q = two_fit nodes w (part 1 a) (part LESS_ONE b) p q
@@ -158,12 +162,43 @@ module _ (inputs : Inputs) (v : Values) (w : ℕ) (wide : IsWidth w) (kinds : Li
         is = m.is (All-nil (λ (f : Fact). holds inputs v f.test ≡ f.yes)) ∙ ap (λ z. word 1 (bit_of z)) (difference_is nodes a b f p q);
       }
 
+  -- and with sums in place of picks
+  shared_difference_is : (a b : Id) (nodes : List Node) → HasWidth nodes a w → HasWidth nodes b w → Fits inputs v (shared_difference kinds w a b nodes).nodes →
+      (let o = shared_difference kinds w a b nodes in TermIs inputs v o.nodes 1 (word 1 (bit_of (equal inputs v a b))) o.value)
+  shared_difference_is a b nodes p q h =
+      let x = shared_inside kinds w INSIDE_LIMIT a nodes in
+      let y = shared_inside kinds w INSIDE_LIMIT b x.nodes in
+      let s = difference x.value y.value in
+      let o = vanishes_by kinds w PRODUCT_LIMIT s y.nodes in
+      let xg = shared_inside_grows kinds w INSIDE_LIMIT a nodes in
+      let yg = shared_inside_grows kinds w INSIDE_LIMIT b x.nodes in
+      let yh = fits_fewer inputs v y.nodes o.nodes (vanishes_within_grows kinds w PRODUCT_LIMIT PRODUCT_LIMIT [] s y.nodes) h in
+      let xh = fits_fewer inputs v x.nodes y.nodes yg yh in
+      let r = wider nodes x.nodes b w xg q in
+      let one = shared_inside_is inputs v w wide kinds INSIDE_LIMIT a nodes p xh in
+      let two = shared_inside_is inputs v w wide kinds INSIDE_LIMIT b x.nodes r yh in
+      let m = sums_is PRODUCT_LIMIT x.value y.value y.nodes (wider x.nodes y.nodes x.value w yg one.has) two.has h in
+      record {
+        wide = m.wide;
+        is = m.is ∙ ap (λ z. word 1 (bit_of (z == bits inputs v y.value))) (shared_number inputs v w wide kinds INSIDE_LIMIT a nodes p xh)
+            ∙ ap (λ z. word 1 (bit_of (bits inputs v a == z))) (shared_number inputs v w wide kinds INSIDE_LIMIT b x.nodes r yh);
+      }
+
 either_is : (inputs : Inputs) (v : Values) (want : Number) (c : Bool) (one two : Out Id) →
     (Fits inputs v one.nodes → TermIs inputs v one.nodes 1 want one.value) →
     (Fits inputs v two.nodes → TermIs inputs v two.nodes 1 want two.value) → Fits inputs v (if c then one else two).nodes →
     TermIs inputs v (if c then one else two).nodes 1 want (if c then one else two).value
 either_is inputs v want true one two h i f = h f
 either_is inputs v want false one two h i f = i f
+
+subtracted_is : (inputs : Inputs) (v : Values) (kinds : List RuleKind) (w : ℕ) → IsWidth w → (a b : Id) (nodes : List Node) → HasWidth nodes a w →
+    HasWidth nodes b w → Fits inputs v (subtracted_at kinds w a b nodes).nodes →
+    TermIs inputs v (subtracted_at kinds w a b nodes).nodes 1 (word 1 (bit_of (equal inputs v a b))) (subtracted_at kinds w a b nodes).value
+subtracted_is inputs v kinds w wide a b nodes p q h =
+    let s = difference a b in
+    either_is inputs v (word 1 (bit_of (equal inputs v a b))) (reads_product nodes s) (shared_difference kinds w a b nodes)
+    (vanishes_by kinds w EQUATE_LIMIT s nodes) (shared_difference_is inputs v w wide kinds a b nodes p q)
+    (sums_is inputs v w wide kinds EQUATE_LIMIT a b nodes p q) h
 
 -- the equality of two words is what it says, where nothing more is known of them
 compared_words_is : (inputs : Inputs) (v : Values) (kinds : List RuleKind) (a b : Id) (nodes : List Node) → WordsAlike nodes a b →
@@ -174,9 +209,9 @@ compared_words_is inputs v kinds a b nodes w h =
     let u = width_at (widths_of nodes) a in
     let e : w.width ≡ u = sym (width_is nodes a w.width w.one_has) in
     let p : HasWidth nodes a u = subst (HasWidth nodes a) e w.one_has in
+    let q : HasWidth nodes b u = subst (HasWidth nodes b) e w.two_has in
     either_is inputs v (word 1 (bit_of (equal inputs v a b))) (are_sums nodes a b)
-    (subtracted kinds a b nodes) (same_words kinds a b nodes)
-    (sums_is inputs v u (width_fits nodes a u f.ordered p) kinds (splits nodes (difference a b)) a b nodes p (subst (HasWidth nodes b) e w.two_has))
+    (subtracted kinds a b nodes) (same_words kinds a b nodes) (subtracted_is inputs v kinds u (width_fits nodes a u f.ordered p) a b nodes p q)
     (same_words_is inputs v kinds a b nodes w) h
 
 -- two words are equal where nothing is left of the one less the other

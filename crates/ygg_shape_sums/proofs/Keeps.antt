@@ -1,5 +1,5 @@
 -- What holds of nodes, and stays as nodes other than inputs are made, holds after words are equated.
-use Rattle.std.proofs.Common.{ℕ, zero, suc, Bool, true, false, ◌==◌, ◌-◌, ◌%◌, ◌^◌, ◌++◌, ◌∷◌, if◌then◌else◌, Option, Some, None, List, []}
+use Rattle.std.proofs.Common.{ℕ, zero, suc, Bool, true, false, ◌==◌, ◌-◌, ◌%◌, ◌^◌, ◌++◌, ◌∷◌, if◌then◌else◌, Option, Some, None, List, [], slice_get}
 use Rattle.ygg_value.specs.Words.{word}
 use Rattle.ygg_value.specs.declared.operation.Op.TheVariants.{Add, Mul}
 use Rattle.ygg_shape_words.specs.ygg_rules.declared.rule.RuleKind.{RuleKind}
@@ -11,6 +11,7 @@ use Rattle.ygg_shape_words.specs.ygg_bank.declared.node.Id.{Id}
 use Rattle.ygg_shape_words.specs.ygg_bank.declared.node.Node.{Node}
 use Rattle.ygg_shape_words.specs.ygg_bank.declared.node.Node.TheVariants.{Const, Bin}
 use Rattle.ygg_shape_words.proofs.Keeps.{Stays, grows_stays, picked_keeps, same_words_keeps}
+use Rattle.ygg_shape_words.specs.Picking.{picked}
 use Rattle.ygg_shape_words.specs.Same.{same_words}
 use Rattle.ygg_shape_sums.specs.Multiplies.{expanded}
 use Rattle.ygg_shape_sums.specs.Parts.{Sum, empty}
@@ -21,10 +22,16 @@ use Rattle.ygg_shape_sums.specs.Splits.{split_of}
 use Rattle.ygg_shape_sums.specs.Reduces.{any_product, products_of, reduced_sum}
 use Rattle.ygg_shape_sums.specs.Sides.{share, more, all_more, side, vanishes}
 use Rattle.ygg_shape_sums.specs.Cancels.{cancels}
-use Rattle.ygg_shape_sums.specs.Equates.{Step, split_as, vanishes_within, difference, are_sums, splits, subtracted, compared_words, equated_words}
+use Rattle.ygg_shape_sums.specs.Equates.{Step, split_as, vanishes_within, vanishes_by, difference, are_sums, reads_product, shared_difference}
+use Rattle.ygg_shape_sums.specs.Equates.{subtracted_at, subtracted, compared_words, equated_words}
+use Rattle.ygg_shape_sums.specs.Sharing.{sharing_of, either, more_where, shared_as, shared_within, inside_as, shared_inside}
+use Rattle.ygg_shape_sums.specs.declared.equating.TheConstants.{EQUATE_LIMIT, PRODUCT_LIMIT}
 use Rattle.ygg_shape_sums.specs.declared.multiplying.TheConstants.{MULTIPLY_LIMIT}
 use Rattle.ygg_shape_sums.specs.declared.parts.Summand.{Summand}
 use Rattle.ygg_shape_sums.specs.declared.reading.Fact.{Fact}
+use Rattle.ygg_shape_sums.specs.declared.sharing.Sharing.{Sharing}
+use Rattle.ygg_shape_sums.specs.declared.sharing.Sharing.TheVariants as sharing
+use Rattle.ygg_shape_sums.specs.declared.sharing.TheConstants.{SHARE_LIMIT, INSIDE_LIMIT}
 
 -- a step after which what held still holds
 abbrev pub Keeping : (List Node → Type 0) → Make Id → Type 0
@@ -117,15 +124,66 @@ module _ (kinds : List RuleKind) (P : List Node → Type 0) (stays : Stays kinds
       let g = reduced_sum nodes w facts s in
       split_as_keeps w (vanishes_within kinds w depth) left facts g (split_of nodes w left facts g.parts) nodes (vanishes_within_keeps w depth) p
 
+  more_where_keeps : (w : ℕ) (t : Id) (d : Bool) (m s : Id) (nodes : List Node) → P nodes → P (more_where kinds w t d m s nodes).nodes
+  more_where_keeps w t d m s nodes p =
+      let z = made kinds (Const (word w 0)) nodes in
+      let one = either d m z.value in
+      let two = either d z.value m in
+      let q = picked kinds t one two z.nodes in
+      stays (Bin Add s q.value) q.nodes tt (picked_keeps kinds P stays t one two z.nodes (stays (Const (word w 0)) nodes tt p))
+
+  abbrev MakeKeeps : (Id → Make Id) → Type 0
+  MakeKeeps next = (a : Id) (nodes : List Node) → P nodes → P (next a nodes).nodes
+
+  shared_as_keeps : (w : ℕ) (next : Id → Make Id) (a : Id) (r : Sharing) (nodes : List Node) → MakeKeeps next → P nodes →
+      P (shared_as kinds w next a r nodes).nodes
+  shared_as_keeps w next a sharing.Apart nodes g p = p
+  shared_as_keeps w next a (sharing.Either t x y) nodes g p = p
+  shared_as_keeps w next a (sharing.Beside s q) nodes g p = let o = next q nodes in stays (Bin Add s o.value) o.nodes tt (g q nodes p)
+  shared_as_keeps w next a (sharing.More t d s m) nodes g p = let o = next s nodes in more_where_keeps w t d m o.value o.nodes (g s nodes p)
+
+  shared_within_keeps : (w depth : ℕ) → MakeKeeps (shared_within kinds w depth)
+  unfolding shared_within
+  shared_within_keeps w zero a nodes p = p
+  shared_within_keeps w (suc depth) a nodes p =
+      shared_as_keeps w (shared_within kinds w depth) a (sharing_of nodes (slice_get nodes a.0)) nodes (shared_within_keeps w depth) p
+
+  inside_as_keeps : (w : ℕ) (next : Id → Make Id) (a : Id) (r : Sharing) (nodes : List Node) → MakeKeeps next → P nodes →
+      P (inside_as kinds w next a r nodes).nodes
+  inside_as_keeps w next a (sharing.Either t x y) nodes g p =
+      let o = next x nodes in
+      let m = next y o.nodes in
+      picked_keeps kinds P stays t o.value m.value m.nodes (g y o.nodes (g x nodes p))
+  inside_as_keeps w next a sharing.Apart nodes g p = shared_within_keeps w SHARE_LIMIT a nodes p
+  inside_as_keeps w next a (sharing.Beside s q) nodes g p = shared_within_keeps w SHARE_LIMIT a nodes p
+  inside_as_keeps w next a (sharing.More t d s m) nodes g p = shared_within_keeps w SHARE_LIMIT a nodes p
+
+  shared_inside_keeps : (w depth : ℕ) → MakeKeeps (shared_inside kinds w depth)
+  unfolding shared_inside
+  shared_inside_keeps w zero a nodes p = shared_within_keeps w SHARE_LIMIT a nodes p
+  shared_inside_keeps w (suc depth) a nodes p =
+      inside_as_keeps w (shared_inside kinds w depth) a (sharing_of nodes (slice_get nodes a.0)) nodes (shared_inside_keeps w depth) p
+
+  shared_difference_keeps : (w : ℕ) (a b : Id) (nodes : List Node) → P nodes → P (shared_difference kinds w a b nodes).nodes
+  shared_difference_keeps w a b nodes p =
+      let x = shared_inside kinds w INSIDE_LIMIT a nodes in
+      let y = shared_inside kinds w INSIDE_LIMIT b x.nodes in
+      vanishes_within_keeps w PRODUCT_LIMIT PRODUCT_LIMIT [] (difference x.value y.value) y.nodes
+      (shared_inside_keeps w INSIDE_LIMIT b x.nodes (shared_inside_keeps w INSIDE_LIMIT a nodes p))
+
   kept_if : (c : Bool) (one two : Out Id) → P one.nodes → P two.nodes → P (if c then one else two).nodes
   kept_if true one two h i = h
   kept_if false one two h i = i
 
+  subtracted_keeps : (w : ℕ) (a b : Id) (nodes : List Node) → P nodes → P (subtracted_at kinds w a b nodes).nodes
+  subtracted_keeps w a b nodes p =
+      kept_if (reads_product nodes (difference a b)) (shared_difference kinds w a b nodes) (vanishes_by kinds w EQUATE_LIMIT (difference a b) nodes)
+      (shared_difference_keeps w a b nodes p) (vanishes_within_keeps w EQUATE_LIMIT EQUATE_LIMIT [] (difference a b) nodes p)
+
   compared_words_keeps : (a b : Id) (nodes : List Node) → P nodes → P (compared_words kinds a b nodes).nodes
   compared_words_keeps a b nodes p =
       kept_if (are_sums nodes a b)
-      (subtracted kinds a b nodes) (same_words kinds a b nodes)
-      (let n = splits nodes (difference a b) in vanishes_within_keeps (width_at (widths_of nodes) a) n n [] (difference a b) nodes p)
+      (subtracted kinds a b nodes) (same_words kinds a b nodes) (subtracted_keeps (width_at (widths_of nodes) a) a b nodes p)
       (same_words_keeps kinds P stays a b nodes p)
 
   pub equated_words_keeps : (a b : Id) (nodes : List Node) → P nodes → P (equated_words kinds a b nodes).nodes
@@ -165,6 +223,15 @@ module _ (kinds : List RuleKind) where
       Extends nodes (vanishes_within kinds w depth left facts s nodes).nodes
   vanishes_within_grows w depth left facts s nodes =
       vanishes_within_keeps kinds (Extends nodes) (only nodes) w depth left facts s nodes (extends_self nodes)
+
+  pub more_where_grows : (w : ℕ) (t : Id) (d : Bool) (m s : Id) (nodes : List Node) → Extends nodes (more_where kinds w t d m s nodes).nodes
+  more_where_grows w t d m s nodes = more_where_keeps kinds (Extends nodes) (only nodes) w t d m s nodes (extends_self nodes)
+
+  pub shared_within_grows : (w depth : ℕ) (a : Id) (nodes : List Node) → Extends nodes (shared_within kinds w depth a nodes).nodes
+  shared_within_grows w depth a nodes = shared_within_keeps kinds (Extends nodes) (only nodes) w depth a nodes (extends_self nodes)
+
+  pub shared_inside_grows : (w depth : ℕ) (a : Id) (nodes : List Node) → Extends nodes (shared_inside kinds w depth a nodes).nodes
+  shared_inside_grows w depth a nodes = shared_inside_keeps kinds (Extends nodes) (only nodes) w depth a nodes (extends_self nodes)
 
   pub compared_words_grows : (a b : Id) (nodes : List Node) → Extends nodes (compared_words kinds a b nodes).nodes
   compared_words_grows a b nodes = compared_words_keeps kinds (Extends nodes) (only nodes) a b nodes (extends_self nodes)

@@ -9,6 +9,7 @@ pub mod Reduces
 pub mod Splits
 pub mod Keeps
 pub mod Sides
+pub mod Shared
 pub mod Remains
 pub mod Cancels
 pub mod Equates

@@ -93,7 +93,7 @@ module _ (inputs : Inputs) (v : Values) (w : ℕ) (wide : IsWidth w) (kinds : Li
       let a = (made kinds (Const (word w n)) nodes).value in
       record { has = m.wide; is = like (2 ^ w) (bits inputs v a) n (ap (λ (z : Number). z.bits) m.is) }
 
-  add_is : (a b : Id) (nodes : List Node) → HasWidth nodes a w → HasWidth nodes b w → Fits inputs v (made kinds (Bin Add a b) nodes).nodes →
+  pub add_is : (a b : Id) (nodes : List Node) → HasWidth nodes a w → HasWidth nodes b w → Fits inputs v (made kinds (Bin Add a b) nodes).nodes →
       Gives (made kinds (Bin Add a b) nodes).nodes (bits inputs v a + bits inputs v b) (made kinds (Bin Add a b) nodes).value
   add_is a b nodes p q h =
       let o = made kinds (Bin Add a b) nodes in

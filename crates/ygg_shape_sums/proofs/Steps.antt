@@ -8,11 +8,11 @@ use Rattle.std.proofs.lemmas.List.{drop_more, drop_all, drop-append-le, drop-set
 use Rattle.ygg_shape_words.specs.ygg_rules.declared.rule.RuleKind.{RuleKind}
 use Rattle.ygg_shape_words.specs.ygg_bank.Makes.{Make, Out, and_make}
 use Rattle.ygg_shape_words.specs.ygg_bank.Making.{made}
-use Rattle.ygg_shape_words.specs.ygg_bank.Nodes.{width_at, widths_of}
 use Rattle.ygg_shape_words.specs.ygg_bank.declared.node.Id.{Id}
 use Rattle.ygg_shape_words.specs.ygg_bank.declared.node.Node.{Node}
 use Rattle.ygg_shape_words.specs.ygg_bank.declared.node.Node.TheVariants.{Bin}
-use Rattle.ygg_value.specs.declared.operation.Op.TheVariants.{Mul}
+use Rattle.ygg_value.specs.declared.operation.Op.TheVariants.{Add, Mul}
+use Rattle.ygg_shape_words.specs.Picking.{picked}
 use Rattle.ygg_shape_sums.specs.Parts.{Sum, part, merged}
 use Rattle.ygg_shape_sums.specs.Readings.{read}
 use Rattle.ygg_shape_sums.specs.Gathers.{parts_of, counted, with_all, gathered, found_within}
@@ -20,10 +20,14 @@ use Rattle.ygg_shape_sums.specs.Reduces.{reduced_sum}
 use Rattle.ygg_shape_sums.specs.Splits.{split_of}
 use Rattle.ygg_shape_sums.specs.Products.{Product}
 use Rattle.ygg_shape_sums.specs.Remains.{times_all, with_term, with_terms, vanishes_left}
+use Rattle.ygg_shape_sums.specs.Sharing.{sharing_of, more_where, shared_as, shared_within, inside_as, shared_inside}
 use Rattle.ygg_shape_sums.specs.Sides.{share, more, all_more}
-use Rattle.ygg_shape_sums.specs.Equates.{Found, IsFound, found, split_as, vanishes_within, difference, splits}
+use Rattle.ygg_shape_sums.specs.Equates.{Found, IsFound, found, split_as, vanishes_within}
 use Rattle.ygg_shape_sums.specs.declared.parts.Summand.{Summand}
 use Rattle.ygg_shape_sums.specs.declared.reading.Fact.{Fact}
+use Rattle.ygg_shape_sums.specs.declared.sharing.Sharing.{Sharing}
+use Rattle.ygg_shape_sums.specs.declared.sharing.Sharing.TheVariants as sharing
+use Rattle.ygg_shape_sums.specs.declared.sharing.TheConstants.{SHARE_LIMIT}
 
 -- the item at a place, and those after it
 pub rest_is : {X : Type 0} (xs : List X) (i : ℕ) (x d : X) → i < length xs → x ≡ get_or xs i d → drop i xs ≡ x ∷ drop (i + 1) xs
@@ -240,11 +244,57 @@ with_terms_goes kinds w ps first old i so_far now p d s next l e g h r =
     goes (with_term kinds w p so_far) rest now next s g h ∙ ap (λ z. with_terms kinds w z so_far now) (sym (rest_is ps i p d l e)) in
     record { value = ap (λ (o : Out Sum). o.value) whole ∙ r.value; nodes = ap (λ (o : Out Sum). o.nodes) whole ∙ r.nodes }
 
--- how the difference of two words is compared with 0
-pub subtracted_by : (kinds : List RuleKind) (a b : Id) (nodes : List Node) (w n : ℕ) (s : Sum) → w ≡ width_at (widths_of nodes) a → n ≡ splits nodes s →
-    s ≡ difference a b → (let k = splits nodes (difference a b) in
-    vanishes_within kinds w n n [] s nodes ≡ vanishes_within kinds (width_at (widths_of nodes) a) k k [] (difference a b) nodes)
-subtracted_by kinds a b nodes w n s e g h =
-    ap (λ z. vanishes_within kinds z n n [] s nodes) e
-    ∙ ap (λ z. vanishes_within kinds (width_at (widths_of nodes) a) z z [] s nodes) g
-    ∙ ap (λ (z : Sum). vanishes_within kinds (width_at (widths_of nodes) a) (splits nodes z) (splits nodes z) [] z nodes) h
+-- no sums in place of picks are made any more, and one more
+pub shared_zero : (kinds : List RuleKind) (w depth : ℕ) (a : Id) (nodes : List Node) → depth ≡ 0 →
+    shared_within kinds w depth a nodes ≡ record { nodes = nodes; value = a }
+unfolding shared_within
+shared_zero kinds w zero a nodes e = refl
+shared_zero kinds w (suc depth) a nodes e = absurd (omega arith)
+
+pub shared_more : (kinds : List RuleKind) (w depth : ℕ) (a : Id) (nodes : List Node) (r : Sharing) → 0 < depth → r ≡ sharing_of nodes (slice_get nodes a.0) →
+    shared_as kinds w (shared_within kinds w (depth - 1)) a r nodes ≡ shared_within kinds w depth a nodes
+unfolding shared_within
+shared_more kinds w zero a nodes r l e = absurd (omega arith)
+shared_more kinds w (suc depth) a nodes r l e =
+    let f : suc depth - 1 ≡ depth = omega arith in
+    ap (λ z. shared_as kinds w (shared_within kinds w z) a r nodes) f ∙ ap (λ z. shared_as kinds w (shared_within kinds w depth) a z nodes) e
+
+-- other picks aren't looked into any more, and once more
+pub inside_zero : (kinds : List RuleKind) (w depth : ℕ) (a : Id) (nodes : List Node) → depth ≡ 0 →
+    shared_within kinds w SHARE_LIMIT a nodes ≡ shared_inside kinds w depth a nodes
+unfolding shared_inside
+inside_zero kinds w zero a nodes e = refl
+inside_zero kinds w (suc depth) a nodes e = absurd (omega arith)
+
+pub inside_more : (kinds : List RuleKind) (w depth : ℕ) (a : Id) (nodes : List Node) (r : Sharing) → 0 < depth → r ≡ sharing_of nodes (slice_get nodes a.0) →
+    inside_as kinds w (shared_inside kinds w (depth - 1)) a r nodes ≡ shared_inside kinds w depth a nodes
+unfolding shared_inside
+inside_more kinds w zero a nodes r l e = absurd (omega arith)
+inside_more kinds w (suc depth) a nodes r l e =
+    let f : suc depth - 1 ≡ depth = omega arith in
+    ap (λ z. inside_as kinds w (shared_inside kinds w z) a r nodes) f ∙ ap (λ z. inside_as kinds w (shared_inside kinds w depth) a z nodes) e
+
+-- a step with sums in place of picks: what was made of the operand of a sum, of what more is added to, and of both words of a pick
+module _ (kinds : List RuleKind) (w depth : ℕ) (a : Id) (old first : List Node) (l : 0 < depth) where
+  pub beside_goes : (s p one : Id) → sharing.Beside s p ≡ sharing_of old (slice_get old a.0) → first ≡ (shared_within kinds w (depth - 1) p old).nodes →
+      one ≡ (shared_within kinds w (depth - 1) p old).value → made kinds (Bin Add s one) first ≡ shared_within kinds w depth a old
+  beside_goes s p one e n f =
+      goes (shared_within kinds w (depth - 1) p) (λ q. made kinds (Bin Add s q)) old first one n f
+      ∙ shared_more kinds w depth a old (sharing.Beside s p) l e
+
+  pub more_goes : (t : Id) (d : Bool) (s m one : Id) → sharing.More t d s m ≡ sharing_of old (slice_get old a.0) →
+      first ≡ (shared_within kinds w (depth - 1) s old).nodes → one ≡ (shared_within kinds w (depth - 1) s old).value →
+      more_where kinds w t d m one first ≡ shared_within kinds w depth a old
+  more_goes t d s m one e n f =
+      goes (shared_within kinds w (depth - 1) s) (more_where kinds w t d m) old first one n f
+      ∙ shared_more kinds w depth a old (sharing.More t d s m) l e
+
+  pub halves_go : (t x y one two : Id) (second : List Node) → sharing.Either t x y ≡ sharing_of old (slice_get old a.0) →
+      first ≡ (shared_inside kinds w (depth - 1) x old).nodes → one ≡ (shared_inside kinds w (depth - 1) x old).value →
+      second ≡ (shared_inside kinds w (depth - 1) y first).nodes → two ≡ (shared_inside kinds w (depth - 1) y first).value →
+      picked kinds t one two second ≡ shared_inside kinds w depth a old
+  halves_go t x y one two second e n f m g =
+      let next = shared_inside kinds w (depth - 1) in
+      goes (next y) (λ q. picked kinds t one q) first second two m g
+      ∙ goes (next x) (λ p. and_make (next y) (λ q. picked kinds t p q)) old first one n f
+      ∙ inside_more kinds w depth a old (sharing.Either t x y) l e

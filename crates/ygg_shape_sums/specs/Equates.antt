@@ -16,10 +16,12 @@ use Rattle.ygg_shape_sums.specs.Gathers.{gathered_sum, has_sum}
 use Rattle.ygg_shape_sums.specs.Remains.{vanishes_left}
 use Rattle.ygg_shape_sums.specs.Cancels.{cancels}
 use Rattle.ygg_shape_sums.specs.Reduces.{any_product, reduced_sum, loses_products}
+use Rattle.ygg_shape_sums.specs.Sharing.{shared_inside}
 use Rattle.ygg_shape_sums.specs.Splits.{split_of}
 use Rattle.ygg_shape_sums.specs.declared.equating.TheConstants.{EQUATE_LIMIT, PRODUCT_LIMIT}
 use Rattle.ygg_shape_sums.specs.declared.gathering.TheConstants.{READ_LIMIT}
 use Rattle.ygg_shape_sums.specs.declared.reading.Fact.{Fact}
+use Rattle.ygg_shape_sums.specs.declared.sharing.TheConstants.{INSIDE_LIMIT}
 use Rattle.ygg_shape_sums.specs.declared.reading.TheConstants.{LESS_ONE}
 
 -- the term that says whether a sum is 0, and how many splits are left then
@@ -58,17 +60,27 @@ are_sums nodes a b =
     else if has_sum READ_LIMIT nodes (difference a b).parts then true
     else loses_products nodes (width_at (widths_of nodes) a) (gathered_sum nodes [] (difference a b))
 
--- how often the comparison of a sum with 0 may be split: more often where it has products of two terms when it is read
-abbrev pub splits : List Node → Sum → ℕ
-splits nodes s = if any_product nodes (gathered_sum nodes [] s).parts then PRODUCT_LIMIT else EQUATE_LIMIT
+-- whether a sum has products of two terms when it is read
+abbrev pub reads_product : List Node → Sum → Bool
+reads_product nodes s = any_product nodes (gathered_sum nodes [] s).parts
 
 -- whether a sum is 0, with so many splits
 abbrev pub vanishes_by : List RuleKind → ℕ → ℕ → Sum → Make Id
 vanishes_by kinds w n s = and_make (vanishes_within kinds w n n [] s) (λ r. pure r.term)
 
--- whether the difference of two words is 0
+-- whether the difference of two words is 0, in which picks are sums
+abbrev pub shared_difference : List RuleKind → ℕ → Id → Id → Make Id
+shared_difference kinds w a b =
+    and_make (shared_inside kinds w INSIDE_LIMIT a) (λ x. and_make (shared_inside kinds w INSIDE_LIMIT b)
+    (λ y. vanishes_by kinds w PRODUCT_LIMIT (difference x y)))
+
+-- whether the difference of two words is 0: in which picks are sums, where there are products of two terms
+abbrev pub subtracted_at : List RuleKind → ℕ → Id → Id → Make Id
+subtracted_at kinds w a b nodes =
+    if reads_product nodes (difference a b) then shared_difference kinds w a b nodes else vanishes_by kinds w EQUATE_LIMIT (difference a b) nodes
+
 abbrev pub subtracted : List RuleKind → Id → Id → Make Id
-subtracted kinds a b nodes = vanishes_by kinds (width_at (widths_of nodes) a) (splits nodes (difference a b)) (difference a b) nodes
+subtracted kinds a b nodes = subtracted_at kinds (width_at (widths_of nodes) a) a b nodes
 
 -- whether two words are equal, where nothing more is known of them: whether their difference is 0, where there are sums, and else as `same` says
 abbrev pub compared_words : List RuleKind → Id → Id → Make Id

@@ -23,6 +23,7 @@ pub mod Multiplies
 pub mod Cancels
 pub mod Reduces
 pub mod Splits
+pub mod Sharing
 pub mod Remains
 pub mod Equates
 pub mod Plain

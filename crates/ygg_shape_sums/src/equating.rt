@@ -7,7 +7,8 @@ ghost use Rattle.ygg_shape_words.specs.ygg_bank.Nodes.{Extends, HasWidth, IsBank
 ghost use Rattle.ygg_shape_words.specs.ygg_bank.Values.{KeepsValues};
 ghost use Rattle.ygg_shape_words.specs.Forms.{WordsAlike};
 ghost use Rattle.ygg_shape_words.specs.Same.{IsSame};
-ghost use Rattle.ygg_shape_sums.specs.Equates.{IsFound, are_sums, compared_words, difference, equated_words, split_as, splits, subtracted, vanishes_within};
+ghost use Rattle.ygg_shape_sums.specs.Equates.{IsFound, are_sums, compared_words, difference, equated_words, reads_product, shared_difference};
+ghost use Rattle.ygg_shape_sums.specs.Equates.{split_as, subtracted, vanishes_by, vanishes_within};
 ghost use Rattle.ygg_shape_sums.specs.Parts.{PartsFit, Sum};
 ghost use Rattle.ygg_shape_sums.specs.Readings.{FactsFit, fact};
 ghost use Rattle.ygg_shape_sums.specs.Splits.{split_of};
@@ -19,6 +20,7 @@ use crate::plain::are_plain;
 use crate::reading::{Fact, LESS_ONE, with};
 use crate::reducing::{any_product, loses_products, reduce};
 use crate::remaining::vanishes_left;
+use crate::sharing::{INSIDE_LIMIT, shared_inside};
 use crate::splitting::split_of;
 use ygg_shape_words::{Bank, Book, Id, NoMemory, Node, pick, same};
 use ygg_value::Word;
@@ -218,20 +220,58 @@ fn sums<B: Book>(bank: &mut Bank, book: &B, one: Id, two: Id) -> Result<Id, NoMe
 {
     let total = difference(bank, one, two)?;
     let width = bank.width(one);
-    let count = splits(bank, width, &total)?;
-    let mut left = count;
-    vanishes_within(bank, book, width, count, &mut left, &[], &total)
+    if reads_product(bank, width, &total)? {
+        shared(bank, book, width, one, two)
+    } else {
+        vanishes_by(bank, book, width, EQUATE_LIMIT, &total)
+    }
 }
 
-/// How often the comparison of a sum with 0 may be split. Its only error is out of memory.
-fn splits(bank: &Bank, width: u8, total: &Total) -> Result<u32, NoMemory>
+/// Whether a sum, read, has products of two terms. Its only error is out of memory.
+fn reads_product(bank: &Bank, width: u8, total: &Total) -> Result<bool, NoMemory>
     requires bank { IsBank bank.now }
     requires parts { PartsFit bank.now width total.now.parts }
-    ensures { IfOk result (λ count. count ≡ splits bank.now total.now) }
+    ensures { IfOk result (λ found. found ≡ reads_product bank.now total.now) }
 {
     let sum = gather(bank, &[], total)?;
-    if any_product(bank, sum.parts()) {
-        return Ok(PRODUCT_LIMIT);
-    }
-    Ok(EQUATE_LIMIT)
+    Ok(any_product(bank, sum.parts()))
+}
+
+/// Whether the difference of two words is 0, in which picks are sums.
+fn shared<B: Book>(bank: &mut Bank, book: &B, width: u8, one: Id, two: Id) -> Result<Id, NoMemory>
+    requires bank { IsBank bank.old }
+    requires width { IsWidth width }
+    requires one { HasWidth bank.old one width }
+    requires two { HasWidth bank.old two width }
+    ensures nodes { OnOk result (bank.new ≡ (shared_difference (B.kinds book.now) width one two bank.old).nodes) }
+    ensures form { IfOk result (λ id. id ≡ (shared_difference (B.kinds book.now) width one two bank.old).value) }
+    ensures width { IfOk result (λ id. HasWidth bank.new id 1) }
+    ensures grows { Extends bank.old bank.new }
+    ensures bank { IsBank bank.new }
+{
+    let first = shared_inside(bank, book, width, INSIDE_LIMIT, one)?;
+    let second = shared_inside(bank, book, width, INSIDE_LIMIT, two)?;
+    let total = difference(bank, first, second)?;
+    vanishes_by(bank, book, width, PRODUCT_LIMIT, &total)
+}
+
+/// Whether a sum is 0, with so many splits.
+fn vanishes_by<B: Book>(
+    bank: &mut Bank,
+    book: &B,
+    width: u8,
+    count: u32,
+    total: &Total,
+) -> Result<Id, NoMemory>
+    requires bank { IsBank bank.old }
+    requires width { IsWidth width }
+    requires parts { PartsFit bank.old width total.now.parts }
+    ensures nodes { OnOk result (bank.new ≡ (vanishes_by (B.kinds book.now) width count total.now bank.old).nodes) }
+    ensures form { IfOk result (λ id. id ≡ (vanishes_by (B.kinds book.now) width count total.now bank.old).value) }
+    ensures width { IfOk result (λ id. HasWidth bank.new id 1) }
+    ensures grows { Extends bank.old bank.new }
+    ensures bank { IsBank bank.new }
+{
+    let mut left = count;
+    vanishes_within(bank, book, width, count, &mut left, &[], total)
 }

@@ -12,6 +12,7 @@ pub mod products;
 pub mod reading;
 pub mod reducing;
 pub mod remaining;
+pub mod sharing;
 pub mod siding;
 pub mod splitting;
 

@@ -58,7 +58,7 @@ pub fn any_product(bank: &Bank, parts: &[Summand]) -> bool
 }
 
 /// Whether a part is a product of two terms.
-fn is_product_at(bank: &Bank, part: Summand) -> bool
+pub fn is_product_at(bank: &Bank, part: Summand) -> bool
     requires bank { IsBank bank.now }
     requires part { Stands bank.now part.term }
     ensures { result ≡ is_product_at bank.now part }

@@ -37,7 +37,7 @@ fn share(width: u8, second: bool, times: u64) -> u64
 }
 
 /// The constant of this width and number.
-fn constant<B: Book>(bank: &mut Bank, book: &B, width: u8, bits: u64) -> Result<Id, NoMemory>
+pub fn constant<B: Book>(bank: &mut Bank, book: &B, width: u8, bits: u64) -> Result<Id, NoMemory>
     requires width { IsWidth width }
     requires bits { bits < 2 ^ width }
     ensures nodes { OnOk result (bank.new ≡ (made (B.kinds book.now) (node.Const (word width bits)) bank.old).nodes) }
@@ -50,7 +50,7 @@ fn constant<B: Book>(bank: &mut Bank, book: &B, width: u8, bits: u64) -> Result<
 }
 
 /// The sum of two words.
-fn sum<B: Book>(bank: &mut Bank, book: &B, width: u8, a: Id, b: Id) -> Result<Id, NoMemory>
+pub fn sum<B: Book>(bank: &mut Bank, book: &B, width: u8, a: Id, b: Id) -> Result<Id, NoMemory>
     requires one { HasWidth bank.old a width }
     requires two { HasWidth bank.old b width }
     ensures nodes { OnOk result (bank.new ≡ (made (B.kinds book.now) (node.Bin op.Add a b) bank.old).nodes) }

@@ -1,7 +1,7 @@
 use Rattle.std.proofs.Common.{[], sym, ap, ◌∙◌, subst}
 use Rattle.ygg_shape_sums.proofs.Reduces.{read_fits}
 use Rattle.ygg_shape_sums.specs.Parts.{PartsAlike, Sum}
-use Rattle.ygg_shape_sums.proofs.equating.splits.Goals as goal
+use Rattle.ygg_shape_sums.proofs.equating.reads_product.Goals as goal
 
 pub any_product-requires-clause-parts : goal.any_product-requires-clause-parts
 any_product-requires-clause-parts c =
