@@ -162,7 +162,8 @@ module _ (nodes : List Node) (o : InOrder [] nodes) where
   if_fits n true i j p q = p
   if_fits n false i j p q = q
 
-  split_fits : (n : Node) (b : Bool) (t : Id) (m k : Node) → HasWidth nodes t 1 → Replaces nodes n m → Replaces nodes n k → InsteadFits nodes n (split_if b t m k)
+  split_fits : (n : Node) (b : Bool) (t : Id) (m k : Node) → HasWidth nodes t 1 → Replaces nodes n m → Replaces nodes n k →
+      InsteadFits nodes n (split_if b t m k)
   split_fits n b t m k h p q = if_fits n b (instead.Split t m k) instead.Itself (h, p, q) tt
 
   resize_replaces : (a x : Id) (w : ℕ) → IsWidth w → Stands nodes x → Replaces nodes (Resize a w) (Resize x w)

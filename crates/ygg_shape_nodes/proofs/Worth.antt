@@ -23,7 +23,8 @@ use Rattle.ygg_shape_nodes.specs.Surely.{twice, twice_at, zero_first, ones_first
 use Rattle.ygg_shape_nodes.specs.Rules.{first_of, not_instead, instead_of}
 use Rattle.ygg_shape_nodes.specs.declared.rules.Instead.{Instead}
 use Rattle.ygg_shape_nodes.specs.declared.rules.Instead.TheVariants as instead
-use Rattle.ygg_shape_nodes.proofs.Sure.{and_twice, or_twice, sub_twice, xor_twice, le_twice, lt_twice, imp_twice, zero_imp, zero_le, zero_gt, zero_xor, zero_mul}
+use Rattle.ygg_shape_nodes.proofs.Sure.{and_twice, or_twice, sub_twice, xor_twice, le_twice, lt_twice}
+use Rattle.ygg_shape_nodes.proofs.Sure.{imp_twice, zero_imp, zero_le, zero_gt, zero_xor, zero_mul}
 use Rattle.ygg_shape_nodes.proofs.Sure.{zero_shl, zero_shr, ones_imp, ones_ge, ones_lt, imp_zero, ge_zero, lt_zero, sub_zero, xor_zero, shl_zero, shr_zero}
 use Rattle.ygg_shape_nodes.proofs.Sure.{mul_zero, imp_ones, le_ones, gt_ones, one_mul, mul_one}
 

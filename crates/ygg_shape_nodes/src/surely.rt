@@ -2,8 +2,8 @@
 
 ghost use Rattle.std.specs.Prelude.{◌≡◌};
 ghost use Rattle.ygg_shape_words.specs.ygg_rules.Views.{IsWidth};
-ghost use Rattle.ygg_shape_nodes.specs.Surely.{always, known_first, known_second, never, none_of, one_first, one_second, ones_first, ones_second, twice, twice_at};
-ghost use Rattle.ygg_shape_nodes.specs.Surely.{zero_first, zero_second};
+ghost use Rattle.ygg_shape_nodes.specs.Surely.{always, known_first, known_second, never, none_of, one_first, one_second, ones_first, ones_second};
+ghost use Rattle.ygg_shape_nodes.specs.Surely.{twice, twice_at, zero_first, zero_second};
 
 use crate::rules::Instead;
 use ygg_shape_words::{Id, Node};

@@ -21,7 +21,7 @@ use Rattle.ygg_shape.specs.ygg_shape_cells.Terms.{AreAlike}
 use Rattle.ygg_shape.specs.ygg_shape_cells.declared.terms.SymValue.{SymValue}
 use Rattle.ygg_shape.specs.ygg_shape_cells.declared.terms.SymValue.TheVariants.{Word, Row}
 use Rattle.ygg_sym_runs.specs.Names.{SymEnv}
-use Rattle.ygg_sym_runs.specs.Exprs.{id_in, all_made, word_made, small_made, applied, part_made, joined}
+use Rattle.ygg_sym_runs.specs.Exprs.{id_in, all_made, small_made, applied, part_made, joined}
 use Rattle.ygg_sym_runs.specs.ExpressionMeaning.{SomeShape}
 use Rattle.ygg_sym_runs.specs.Seen.{SymKnown, CanTerm, CanCall, CanQuantify, CanOperate, terms_called, terms_in, joining, start_of, test_at}
 use Rattle.ygg_sym_runs.proofs.Constructs.{

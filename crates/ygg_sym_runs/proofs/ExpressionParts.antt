@@ -101,7 +101,8 @@ module _ (inputs : Inputs) (v : Values) (kinds : List RuleKind) where
       let o = made kinds n nodes in
       word_worth inputs v o.nodes (node_width (widths_of nodes) n) (node_value inputs v n) o.value h (made_is inputs v kinds n nodes c h)
 
-  pub small_gives : (n : Node) (nodes : List Node) → CanMake nodes n → Gives inputs v (small_made kinds n) nodes (IsWorth v (value.Word (node_value inputs v n)))
+  pub small_gives : (n : Node) (nodes : List Node) → CanMake nodes n →
+      Gives inputs v (small_made kinds n) nodes (IsWorth v (value.Word (node_value inputs v n)))
   small_gives n nodes c h =
       let o = made_small kinds n nodes in
       word_worth inputs v o.nodes (node_width (widths_of nodes) n) (node_value inputs v n) o.value h (small_is inputs v kinds n nodes c h)

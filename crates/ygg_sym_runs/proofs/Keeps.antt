@@ -63,7 +63,9 @@ module _ (kinds : List RuleKind) (P : List Node → Type 0) (stays : Stays kinds
   part_keeps (Table table) at nodes p = selected_keeps kinds P stays table at nodes p
 
   unequal_keeps : (x y : SymValue) → Keeps P (applied kinds op.Ne x y)
-  unequal_keeps x y nodes p = let o = compared kinds x y nodes in small_keeps kinds P stays (node.Not o.value) o.nodes tt (compared_keeps kinds P stays x y nodes p)
+  unequal_keeps x y nodes p =
+      let o = compared kinds x y nodes in
+      small_keeps kinds P stays (node.Not o.value) o.nodes tt (compared_keeps kinds P stays x y nodes p)
 
   pub applied_keeps : (o : Op) (x y : SymValue) → Keeps P (applied kinds o x y)
   applied_keeps op.Eq x y nodes p = compared_keeps kinds P stays x y nodes p
@@ -120,7 +122,9 @@ module _ (kinds : List RuleKind) (P : List Node → Type 0) (stays : Stays kinds
         let x = S a.0 scope nodes in
         let y = S b.0 scope x.nodes in
         applied_keeps o x.value y.value y.nodes (b.1 scope x.nodes (a.1 scope nodes p))
-    node_keeps (Expr-F.Not first a) scope nodes p = let x = S a.0 scope nodes in small_keeps kinds P stays (node.Not (id_in x.value)) x.nodes tt (a.1 scope nodes p)
+    node_keeps (Expr-F.Not first a) scope nodes p =
+        let x = S a.0 scope nodes in
+        small_keeps kinds P stays (node.Not (id_in x.value)) x.nodes tt (a.1 scope nodes p)
     node_keeps (Expr-F.At a bracket i) scope nodes p =
         let x = S a.0 scope nodes in
         let k = S i.0 scope x.nodes in

@@ -107,23 +107,8 @@ use Rattle.ygg_shape.specs.ygg_shape_cells.Terms.{worth}
 use Rattle.ygg_shape.specs.ygg_shape_cells.declared.terms.SymValue.{SymValue}
 use Rattle.ygg_shape.specs.ygg_shape_cells.declared.terms.SymValue.TheVariants.{Row}
 use Rattle.ygg_sym_runs.specs.Names.{SymEnv, SymScope, sym_look_up}
-use Rattle.ygg_sym_runs.specs.Exprs.{
-  SymFunctions,
-  Making,
-  id_in,
-  all_made,
-  word_made,
-  small_made,
-  number_made,
-  applied,
-  part_made,
-  joined,
-  quantified_made,
-  with_name,
-  at_number,
-  node_made,
-  sym_value,
-}
+use Rattle.ygg_sym_runs.specs.Exprs.{SymFunctions, Making, id_in, all_made, small_made, number_made, applied}
+use Rattle.ygg_sym_runs.specs.Exprs.{part_made, joined, quantified_made, with_name, at_number, node_made, sym_value}
 use Rattle.ygg_sym_runs.specs.ExpressionMeaning.{SomeShape, EnvShaped, ScopeShaped, Gives, worths, scope_worth, IsWorth}
 use Rattle.ygg_sym_runs.proofs.Shaped.{some_wider, scope_wider, word_worth}
 use Rattle.ygg_shape.specs.ygg_shape_cells_proofs_Grows.{merged_grows}

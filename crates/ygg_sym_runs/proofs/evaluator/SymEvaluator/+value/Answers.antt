@@ -26,7 +26,7 @@ use Rattle.ygg_eval_expr.proofs.Weighed.{
   rest_lighter,
 }
 use Rattle.ygg_sym_runs.specs.Names.{SymEnv, sym_look_up, sym_bind}
-use Rattle.ygg_sym_runs.specs.Exprs.{word_made, small_made, number_made, part_made, joined, sym_value}
+use Rattle.ygg_sym_runs.specs.Exprs.{small_made, number_made, part_made, joined, sym_value}
 use Rattle.ygg_sym_runs.specs.Seen.{SymKnown, CanTerm, env_of, known_of, terms_called, terms_in, joining, start_of, test_at}
 use Rattle.ygg_sym_runs.proofs.ExpressionPlaced.{placed, body_parts}
 use Rattle.ygg_sym_runs.proofs.Terms.{can_later}
