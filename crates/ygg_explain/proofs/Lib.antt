@@ -1,0 +1,4 @@
+pub mod Adding
+pub mod Lining
+pub mod Telling
+pub mod Seeing
