@@ -15,7 +15,7 @@ use Rattle.ygg_explain.specs.Told.{ToldOf}
 
 -- the first lines: the obligation, and the schedule's values
 abbrev pub first_lines : Site → Schedule → List ℕ
-first_lines s x = ended (codes "ygg-explain 1") ++ ended (codes "obligation " ++ x.name) ++ value_lines s x
+first_lines s x = ended (codes "ygg-explain 1") ++ (ended (codes "obligation " ++ x.name) ++ value_lines s x)
 
 -- what a schedule of the file shows, and what is told of it
 pub record IsExplainedOf (f : File) (schedule : Schedule) (status : Status) (text : List ℕ) : Type 0 where
@@ -28,7 +28,7 @@ pub record IsExplainedOf (f : File) (schedule : Schedule) (status : Status) (tex
   pub told : List ℕ
   pub is_told : ToldOf claim.layer (machine_below claim.below) claim.obligation (meant claim schedule) answer told
   pub status_is : status ≡ status_of answer
-  pub text_is : text ≡ first_lines site schedule ++ told ++ line_of schedule.name answer
+  pub text_is : text ≡ first_lines site schedule ++ (told ++ line_of schedule.name answer)
 
 -- the text is a schedule of the file, and it is explained
 pub record IsExplained (f : File) (bytes : List ℕ) (status : Status) (text : List ℕ) : Type 0 where

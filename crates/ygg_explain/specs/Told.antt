@@ -33,7 +33,7 @@ answer_lines (Some v) = line_of (codes "answer " ++ value_text v)
 
 -- memory and machine below where the runs end, and the answer
 abbrev pub reached_lines : State Env → Answer → List ℕ
-reached_lines to answer = env_lines (codes "reached memory ") (memory_in to) ++ env_lines (codes "reached ") to.base ++ answer_lines answer
+reached_lines to answer = env_lines (codes "reached memory ") (memory_in to) ++ (env_lines (codes "reached ") to.base ++ answer_lines answer)
 
 -- the word of a test
 abbrev pub truth_word : Bool → List ℕ
@@ -59,6 +59,11 @@ settled_lines kind.Cut side = line_of (settled_words side)
 settled_lines kind.CutTick side = line_of (settled_words side)
 settled_lines kind.Idle side = line_of (settled_words side)
 settled_lines _ side = []
+
+-- whether two recoveries are asked for
+abbrev pub is_again : CaseKind → Bool
+is_again kind.Again = true
+is_again _ = false
 
 -- all lists of as many picks; two recoveries ask for none
 abbrev pub lists_by : CaseKind → ℕ → List Picks
@@ -125,7 +130,8 @@ module _ (L : ClosedLayer) (o : Obligation) (x : Schedule) (end : End) where
     pub is : spec_after L o x picks ≡ Some out
     pub parts : List ℕ
     pub relation : IsRelation L out.vars (memory_in end.to) end.to.base parts
-    pub text_is : text ≡ bits_line (codes "picks ") picks ++ env_lines (codes "allowed ") out.vars ++ answers_lines (kind_of o) end.answer out.answer ++ parts
+    pub text_is : text ≡ bits_line (codes "picks ") picks
+        ++ (env_lines (codes "allowed ") out.vars ++ (answers_lines (kind_of o) end.answer out.answer ++ parts))
 
   -- the same of several lists of picks, in their order
   pub data AreChoices : List Picks → List ℕ → Type 0 where
@@ -139,7 +145,7 @@ module _ (L : ClosedLayer) (M : Machine Env Bool) (o : Obligation) (x : Schedule
     pub meets : Meets L M o x end
     pub choices : List ℕ
     pub allowed : AreChoices L o x end (lists_by (kind_of o) (most L o)) choices
-    pub text_is : text ≡ settled_lines (kind_of o) end.side ++ reached_lines end.to end.answer ++ choices
+    pub text_is : text ≡ settled_lines (kind_of o) end.side ++ (reached_lines end.to end.answer ++ choices)
 
   -- what is told of a schedule that shows this: the runs' end, or the false parts of a false hypothesis on the first states
   abbrev pub ToldOf : Replayed → List ℕ → Type 0

@@ -12,7 +12,7 @@ ghost use Rattle.ygg_sched.specs.declared.case.CaseKind.TheVariants as kind;
 ghost use Rattle.ygg_sched.specs.Printing.{bits_line};
 ghost use Rattle.ygg_explain.specs.Parts.{Adds};
 ghost use Rattle.ygg_explain.specs.Sites.{AllChoicesIn, AreAll, CanTell, ChoiceIn, ChoicesIn, IsOf};
-ghost use Rattle.ygg_explain.specs.Told.{answers_lines, compared_lines};
+ghost use Rattle.ygg_explain.specs.Told.{answers_lines, compared_lines, is_again};
 
 use crate::environments::named;
 use crate::formulas::put_relation;
@@ -188,6 +188,16 @@ fn put_after(
     put_after(site, out, asking, left - 1, chosen.as_slice())
 }
 
+/// Whether two recoveries are asked for.
+fn is_again(kind: CaseKind) -> bool
+    ensures { result ≡ is_again kind }
+{
+    match kind {
+        CaseKind::Again => true,
+        _ => false,
+    }
+}
+
 /// Adds what is told of each list of the specification's picks, of which two recoveries have none. Its only error is out of memory.
 pub fn put_allowed(
     site: &ReplaySite<'_>,
@@ -198,16 +208,9 @@ pub fn put_allowed(
     requires can { CanTell site.now asking }
     ensures { OnOk result (Adds (AllChoicesIn site.now asking.entry) out.old out.new) }
 {
-    match asking.case.kind {
-        CaseKind::Again => Ok(()),
-        CaseKind::Init
-        | CaseKind::Call
-        | CaseKind::Cut
-        | CaseKind::Tick
-        | CaseKind::CutTick
-        | CaseKind::Idle => {
-            let count = most(site, asking.case)?;
-            put_after(site, out, asking, count, &[])
-        }
+    if is_again(asking.case.kind) {
+        return Ok(());
     }
+    let count = most(site, asking.case)?;
+    put_after(site, out, asking, count, &[])
 }

@@ -1,4 +1,4 @@
-use Rattle.std.proofs.Common.{◌+◌, drop}
+use Rattle.std.proofs.Common.{◌+◌, drop, arith}
 use Rattle.ygg_explain.proofs.Telling.{all_told, drop_here, drop_none, one_told}
 use Rattle.ygg_explain.proofs.parts.View.put_all_parts.Goals as goal
 
@@ -15,4 +15,4 @@ returns c =
     let es = c.args.es.now in
     let i = c.loop-e.e-index in
     all_told c.args.self.now c.args.wanted c.args.which.now es (drop i es) c.args.out.now c.loop-e.out c.loop-e.invariant
-    (drop_none es i c.loop-e-test.false)
+    (drop_none es i (λ before. let past = c.loop-e-test.false in omega arith))
