@@ -139,7 +139,7 @@ def rows():
     # schedules that `replay` refuses
     yield "pair_broken", CUT[:-1], 2, "refused 34 12:1\n"
     yield "pair_broken", edited(CUT, ("arg a", "arg c")), 2, "refused 32 7:1\n"
-    yield "pair_broken", edited(CUT, ("state x 00", "state x 000")), 2, "refused 33 3:1\n"
+    yield "pair_broken", edited(CUT, ("state x 00", "state x 1ff")), 2, "refused 33 3:1\n"
     yield "pair_broken", "verified 7\n", 2, "refused 31 1:1\n"
     yield "pair_broken", None, 2, "refused 73 0:2\n"
 
