@@ -132,8 +132,8 @@ def rows():
     # the second word of the disk isn't the state's
     first = ("low view 00;00;00;00;00", "low view 00;00;00;00;07"), ("low stable 00;00;00;00;00", "low stable 00;00;00;00;07")
     yield "pair_broken", edited(CUT, *first), 2, edited(CUT_FIRST, *first) + "false relate 43:98 07 00\nhypothesis 0\n"
-    # the block has eight calls
-    yield "pair_broken", edited(CUT, ("stop before 3", "stop before 9")), 2, CUT_FIRST + "hypothesis 1\n"
+    # the block has nine calls
+    yield "pair_broken", edited(CUT, ("stop before 3", "stop before 10")), 2, CUT_FIRST + "hypothesis 1\n"
     yield "pair_broken_recovery", AGAIN, 1, AGAIN_TOLD
     yield "ledger_broken", STACK, 1, STACK_TOLD
     # schedules that `replay` refuses

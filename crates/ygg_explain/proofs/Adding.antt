@@ -1,5 +1,5 @@
 -- Texts that are put behind one another.
-use Rattle.std.proofs.Common.{◌≡◌, ℕ, List, [], ◌++◌, Result, Ok, Err, OnOk, sym, ap, ◌∙◌, subst, append_assoc}
+use Rattle.std.proofs.Common.{◌≡◌, ℕ, List, ◌++◌, Result, Ok, Err, OnOk, ap, ◌∙◌, append_assoc}
 use Rattle.ygg_explain.specs.Parts.{Adds}
 
 -- what holds where there is no error gives another fact of it

@@ -1,5 +1,5 @@
 -- What is told of where runs end, and of a schedule of a file.
-use Rattle.std.proofs.Common.{◌≡◌, ℕ, Bool, true, List, ◌++◌, slice_get, Some, sym, ap, ◌∙◌, subst}
+use Rattle.std.proofs.Common.{◌≡◌, ℕ, Bool, true, List, ◌++◌, slice_get, Some, ap, ◌∙◌, subst}
 use Rattle.ygg_syntax.specs.declared.tree.File.{File}
 use Rattle.ygg_replay.specs.ygg_meaning.Environments.{Env}
 use Rattle.ygg_replay.specs.ygg_meaning.Machine.{Machine}
@@ -16,7 +16,7 @@ use Rattle.ygg_replay.specs.Steps.{meant_at}
 use Rattle.ygg_replay.specs.declared.ends.End.{End as Ended}
 use Rattle.ygg_replay.specs.declared.schedule.Replayed.{Replayed}
 use Rattle.ygg_replay.specs.declared.site.ReplaySite.{ReplaySite}
-use Rattle.ygg_replay.specs.ygg_sched.Cases.{IsFirstNamed, kind_of}
+use Rattle.ygg_replay.specs.ygg_sched.Cases.{IsFirstNamed}
 use Rattle.ygg_replay.proofs.Places.{claim_at, claim_is, stands}
 use Rattle.ygg_sched.specs.declared.case.Case.{Case}
 use Rattle.ygg_sched.specs.declared.case.CaseKind.{CaseKind}

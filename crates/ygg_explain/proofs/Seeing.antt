@@ -1,5 +1,5 @@
 -- What the formulas of a layer are evaluated with.
-use Rattle.std.proofs.Common.{◌≡◌, ℕ, suc, ◌-◌, Bool, true, false, List, [], ◌++◌, slice_get, Option, Some, None, codes, sym, ap, ◌∙◌, subst, refl}
+use Rattle.std.proofs.Common.{◌≡◌, ℕ, Bool, List, [], ◌++◌, slice_get, Some, ap, ◌∙◌, subst, refl}
 use Rattle.ygg_value.specs.declared.row.Value.{Value}
 use Rattle.ygg_syntax.specs.declared.tree.Expr.{Expr}
 use Rattle.ygg_sched.specs.ygg_type_rules.Files.{IsTyped}
@@ -8,13 +8,12 @@ use Rattle.ygg_eval.specs.ygg_meaning.Meaning.{functions_of}
 use Rattle.ygg_eval.specs.Layers.{variables_at}
 use Rattle.ygg_eval.specs.declared.formula.Formula.{Formula}
 use Rattle.ygg_eval.specs.declared.formula.Which.TheVariants.{Relate, Always, Settled}
-use Rattle.ygg_eval.specs.Formulas.{IsAsked}
 use Rattle.ygg_eval.proofs.Asked.{asked_can}
 use Rattle.ygg_eval_expr.specs.Known.{CanEvaluate, Known, scope_in}
 use Rattle.ygg_replay.specs.declared.site.ReplaySite.{ReplaySite}
 use Rattle.ygg_replay.specs.Sites.{IsHere, LowFits, StatesFit, closed_in, file_of, low_at, memory_at, vars_at}
-use Rattle.ygg_explain.specs.Parts.{Adds, AreAllParts, AreParts}
-use Rattle.ygg_explain.specs.Told.{IsRelation, scope_at}
+use Rattle.ygg_explain.specs.Parts.{AreAllParts, AreParts}
+use Rattle.ygg_explain.specs.Told.{scope_at}
 use Rattle.ygg_explain.specs.Views.{AllPartsIn, PartsIn, known_in}
 use Rattle.ygg_explain.specs.declared.parts.View.{View}
 

@@ -1,5 +1,31 @@
 -- What is told of formulas, put together from what is told of their parts.
-use Rattle.std.proofs.Common.{◌≡◌, ℕ, ◌+◌, zero, suc, Bool, true, false, List, [], ◌∷◌, ◌++◌, drop, length, ◌<◌, get_or, codes, sym, ap, ◌∙◌, subst, refl, append_assoc, append-nil, arith}
+use Rattle.std.proofs.Common.{
+  ◌≡◌,
+  ℕ,
+  ◌+◌,
+  zero,
+  suc,
+  Bool,
+  true,
+  false,
+  List,
+  [],
+  ◌∷◌,
+  ◌++◌,
+  drop,
+  length,
+  ◌<◌,
+  get_or,
+  codes,
+  sym,
+  ap,
+  ◌∙◌,
+  subst,
+  refl,
+  append_assoc,
+  append-nil,
+  arith,
+}
 use Rattle.ygg_value.specs.declared.operation.Op.{Op}
 use Rattle.ygg_value.specs.declared.operation.Op.TheVariants as op
 use Rattle.ygg_value.specs.declared.row.Value.{Value}
@@ -9,7 +35,7 @@ use Rattle.ygg_syntax.specs.declared.tree.Expr.TheVariants as expr
 use Rattle.ygg_eval.specs.ygg_meaning.Meaning.{is_one}
 use Rattle.ygg_eval_expr.specs.Known.{value_in}
 use Rattle.ygg_sched.specs.Printing.{line_of}
-use Rattle.ygg_explain.specs.Parts.{Adds, AreSides, compares, compared, part_words, holds, fails, both, itself, none, more}
+use Rattle.ygg_explain.specs.Parts.{Adds, AreSides, compares, compared, part_words, fails, both, none, more}
 use Rattle.ygg_explain.specs.Views.{AllPartsIn, PartIn, PartsIn, WhyIn, known_in}
 use Rattle.ygg_explain.specs.declared.parts.View.{View}
 use Rattle.ygg_explain.proofs.Adding.{adds_after, joined_2}

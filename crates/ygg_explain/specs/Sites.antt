@@ -1,6 +1,5 @@
 -- What is told at a layer of a file.
 use Rattle.std.specs.Prelude.{◌≡◌, ℕ, IsTrue, List, Some, slice_get}
-use Rattle.ygg_value.specs.declared.row.Value.{Value}
 use Rattle.ygg_syntax.specs.declared.tree.Layer.{Layer}
 use Rattle.ygg_syntax.specs.declared.tree.File.{File}
 use Rattle.ygg_replay.specs.ygg_meaning.Machine.{Picks}

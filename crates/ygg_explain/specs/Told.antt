@@ -1,5 +1,5 @@
 -- What is told of a schedule of an obligation.
-use Rattle.std.specs.Prelude.{◌≡◌, ℕ, zero, suc, Bool, true, false, List, [], ◌∷◌, ◌++◌, length, slice_get, Option, Some, None, codes}
+use Rattle.std.specs.Prelude.{◌≡◌, ℕ, zero, suc, Bool, true, false, List, [], ◌∷◌, ◌++◌, slice_get, Option, Some, None, codes}
 use Rattle.ygg_value.specs.Values.{same_value}
 use Rattle.ygg_value.specs.declared.row.Value.{Value}
 use Rattle.ygg_syntax.specs.declared.tree.Expr.{Expr}
@@ -13,7 +13,6 @@ use Rattle.ygg_replay.specs.ygg_meaning.Spec.{Outcome}
 use Rattle.ygg_replay.specs.ygg_meaning.Obligations.{Schedule, Obligation, Init, CallOf, CutOf, TickOf, CutTickOf, Idle, Again}
 use Rattle.ygg_replay.specs.ygg_meaning.Violates.{End, Meets, most, spec_after}
 use Rattle.ygg_replay.specs.ygg_meaning.Replayed.{Replayed, Shows, Hypothesis, Passes, pick_lists}
-use Rattle.ygg_report.specs.Picks.{bits_text}
 use Rattle.ygg_sched.specs.declared.case.CaseKind.{CaseKind}
 use Rattle.ygg_sched.specs.declared.case.CaseKind.TheVariants as kind
 use Rattle.ygg_sched.specs.Cases.{kind_of}

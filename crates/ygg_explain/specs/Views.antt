@@ -5,7 +5,7 @@ use Rattle.ygg_eval.specs.ygg_meaning.Meaning.{functions_of}
 use Rattle.ygg_eval_expr.specs.Held.{env_of}
 use Rattle.ygg_eval_expr.specs.Known.{Known, scope_in}
 use Rattle.ygg_explain.specs.declared.parts.View.{View}
-use Rattle.ygg_explain.specs.Parts.{Adds, AreAllParts, AreParts, IsPart, IsWhy}
+use Rattle.ygg_explain.specs.Parts.{AreAllParts, AreParts, IsPart, IsWhy}
 
 -- the definitions that are seen, and names with values
 abbrev pub known_in : View → Known

@@ -20,7 +20,7 @@ use crate::reached::{put_reached, put_settled};
 use std::alloc::Global;
 use ygg_base::{NoMemory, Refuse, Status, Text};
 use ygg_replay::{
-    Replayed, ReplaySite, Schedule, Typed, holds_with, hypothesis, read_schedule, refused, replay,
+    ReplaySite, Replayed, Schedule, Typed, holds_with, hypothesis, read_schedule, refused, replay,
     shows,
 };
 use ygg_sched::{Case, CaseKind, Claim, Low, claim_named};
@@ -29,7 +29,12 @@ use ygg_syntax::tree::Declared;
 use ygg_value::Value;
 
 /// Adds the lines of the variables that `low` names. Its only error is out of memory.
-fn put_low(alloc: Global, out: &mut Text, claim: Claim<'_>, schedule: &Schedule) -> Result<(), NoMemory>
+fn put_low(
+    alloc: Global,
+    out: &mut Text,
+    claim: Claim<'_>,
+    schedule: &Schedule,
+) -> Result<(), NoMemory>
     ensures { OnOk result (out.new ≡ out.old ++ variable_lines (codes "low ") (low_lines (site_in claim.entry)) schedule.now.low) }
 {
     match claim.low() {
@@ -67,7 +72,13 @@ fn put_values(
 ) -> Result<(), NoMemory>
     ensures { OnOk result (out.new ≡ out.old ++ value_lines (site_in claim.entry) schedule.now) }
 {
-    put_variables(alloc, out, b"state ", claim.state(), schedule.state.as_slice())?;
+    put_variables(
+        alloc,
+        out,
+        b"state ",
+        claim.state(),
+        schedule.state.as_slice(),
+    )?;
     put_variables(
         alloc,
         out,
@@ -110,8 +121,7 @@ fn put_false(
 {
     match case.kind {
         CaseKind::Init => Ok(()),
-        CaseKind::Call | CaseKind::Cut | CaseKind::Tick | CaseKind::CutTick | CaseKind::Idle =>
-            {
+        CaseKind::Call | CaseKind::Cut | CaseKind::Tick | CaseKind::CutTick | CaseKind::Idle => {
             put_false_relation(
                 site,
                 out,

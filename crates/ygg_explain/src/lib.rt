@@ -4,8 +4,8 @@
 mod allowed;
 mod environments;
 mod explaining;
-mod formulas;
 mod forms;
+mod formulas;
 mod lines;
 mod parts;
 mod reached;

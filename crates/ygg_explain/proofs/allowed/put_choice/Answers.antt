@@ -6,7 +6,7 @@ use Rattle.ygg_replay.specs.Sites.{StatesFit, closed_in, low_at, memory_at, vars
 use Rattle.ygg_sched.specs.Printing.{bits_line}
 use Rattle.ygg_explain.specs.Lines.{env_lines}
 use Rattle.ygg_explain.specs.Told.{IsRelation, answers_lines}
-use Rattle.ygg_explain.proofs.Adding.{joined_2, joined_3, on_ok}
+use Rattle.ygg_explain.proofs.Adding.{joined_3, on_ok}
 use Rattle.ygg_explain.proofs.Choosing.{choice_of, choice_text, step_of}
 use Rattle.ygg_explain.proofs.allowed.put_choice.Goals as goal
 

@@ -1,4 +1,4 @@
-use Rattle.std.proofs.Common.{◌≡◌, ◌++◌, ℕ, suc, zero, ◌-◌, false, [], List, codes, ap, ◌∙◌, subst, slice_get, Option, Some, None, sym, append-nil, refl, arith}
+use Rattle.std.proofs.Common.{◌≡◌, ℕ, suc, ◌-◌, false, [], List, codes, ap, subst, slice_get, Option, Some, None, sym, append-nil, refl, arith}
 use Rattle.ygg_syntax.specs.declared.tree.Expr.{Expr}
 use Rattle.ygg_replay.specs.ygg_meaning.Related.{relations}
 use Rattle.ygg_eval_expr.specs.Held.{env_of}

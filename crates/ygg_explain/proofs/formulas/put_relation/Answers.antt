@@ -1,8 +1,8 @@
-use Rattle.std.proofs.Common.{◌≡◌, ◌++◌, true, codes, ap, ◌∙◌, subst, slice_get, Some, refl}
+use Rattle.std.proofs.Common.{◌≡◌, true, codes, ap, subst, slice_get, Some, refl}
 use Rattle.ygg_eval_expr.specs.Held.{env_of}
 use Rattle.ygg_explain.specs.Views.{AllPartsIn, known_in}
 use Rattle.ygg_explain.proofs.Adding.{adds_after, on_ok}
-use Rattle.ygg_explain.proofs.Seeing.{all_parts_seen, always_ready, known_is, known_relation, parts_seen, relate_ready}
+use Rattle.ygg_explain.proofs.Seeing.{all_parts_seen, always_ready, known_is, parts_seen, relate_ready}
 use Rattle.ygg_explain.proofs.formulas.put_relation.Goals as goal
 
 pub put_parts-requires : goal.put_parts-requires

@@ -1,4 +1,4 @@
-use Rattle.std.proofs.Common.{◌≡◌, ℕ, ◌<◌, false, [], ◌++◌, codes, length, refl, sym, ap, ◌∙◌, append-nil, arith}
+use Rattle.std.proofs.Common.{◌≡◌, ◌<◌, false, [], ◌++◌, codes, length, refl, sym, ap, ◌∙◌, append-nil, arith}
 use Rattle.std.specs.Fmt.{decimal}
 use Rattle.ygg_value.specs.Values.{part_of, same_value}
 use Rattle.ygg_value.specs.declared.row.Value.TheVariants.{Table}

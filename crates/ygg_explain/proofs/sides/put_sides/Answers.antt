@@ -14,13 +14,15 @@ told r v w before after unlike h = on_ok r (λ added. record { text = both_text 
 pub returns-in-Table-Word-default-default : goal.returns-in-Table-Word-default-default
 returns-in-Table-Word-default-default c =
     told c.put_both.result c.args.a.now c.args.b.now c.args.out.now c.put_both.new.out
-    (ap (λ v. are_tables v c.args.b.now) c.in-Table-Word-default-default.is-0 ∙ ap (are_tables (Table c.in-Table-Word-default-default.field-0-0)) c.in-Table-Word-default-default.is-1)
+    (ap (λ v. are_tables v c.args.b.now) c.in-Table-Word-default-default.is-0
+    ∙ ap (are_tables (Table c.in-Table-Word-default-default.field-0-0)) c.in-Table-Word-default-default.is-1)
     c.put_both.ensures
 
 pub returns-in-Table-Row-default-default : goal.returns-in-Table-Row-default-default
 returns-in-Table-Row-default-default c =
     told c.put_both-in-Table-Row-default-default.result c.args.a.now c.args.b.now c.args.out.now c.put_both-in-Table-Row-default-default.new.out
-    (ap (λ v. are_tables v c.args.b.now) c.in-Table-Row-default-default.is-0 ∙ ap (are_tables (Table c.in-Table-Row-default-default.field-0-0)) c.in-Table-Row-default-default.is-1)
+    (ap (λ v. are_tables v c.args.b.now) c.in-Table-Row-default-default.is-0
+    ∙ ap (are_tables (Table c.in-Table-Row-default-default.field-0-0)) c.in-Table-Row-default-default.is-1)
     c.put_both-in-Table-Row-default-default.ensures
 
 pub returns-in-Row-default-default-default : goal.returns-in-Row-default-default-default
