@@ -1,7 +1,7 @@
 # Completion of ygg's words in bash: its commands, and for each of these the files and words that it takes, in their order.
 
 _ygg() {
-    local commands='verify certify check print replay play format run solve cnf decide demo --help --version' word=${COMP_WORDS[COMP_CWORD]} takes names
+    local commands='verify certify check print replay explain play format run solve cnf decide demo --help --version' word=${COMP_WORDS[COMP_CWORD]} takes names
     COMPREPLY=()
     if [ "$COMP_CWORD" -eq 1 ]; then
         COMPREPLY=($(compgen -W "$commands" -- "$word"))
@@ -10,7 +10,7 @@ _ygg() {
     case ${COMP_WORDS[1]} in
     verify | certify | print) takes='layer' ;;
     check) takes='layer any' ;;
-    replay | play) takes='layer any' ;;
+    replay | explain | play) takes='layer any' ;;
     format) takes='layer any' ;;
     run) takes='layer any any any' ;;
     solve) takes='any' ;;

@@ -4,7 +4,7 @@ use std::alloc::{AllocError, Global};
 use strsim::osa_distance;
 
 /// How each command is called.
-const CALLS: [(&str, &str); 14] = [
+const CALLS: [(&str, &str); 15] = [
     (
         "verify",
         "ygg verify FILE [BUDGET]        does FILE survive power failure?",
@@ -12,6 +12,10 @@ const CALLS: [(&str, &str); 14] = [
     (
         "replay",
         "ygg replay FILE SCHEDULE        does this schedule show that it doesn't?",
+    ),
+    (
+        "explain",
+        "ygg explain FILE SCHEDULE       which parts of which line are false there?",
     ),
     (
         "play",

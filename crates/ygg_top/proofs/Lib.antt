@@ -2,6 +2,7 @@ pub use Rattle.ygg_top_command.proofs as of_ygg_top_command
 pub use Rattle.ygg_top_command.proofs.of_ygg_report
 pub use Rattle.ygg_yard.proofs.of_ygg_meaning_laws
 mod Replays
+mod Explains
 pub mod Verdicts
 mod Written
 pub mod Judging

@@ -13,6 +13,7 @@ use Rattle.ygg_top.specs.Certifying.{Certified, IsCutCertifying}
 use Rattle.ygg_top.specs.Checking.{ChecksNamed}
 use Rattle.ygg_top.specs.Asking.{AsksNamed, IsCutAsking}
 use Rattle.ygg_top.specs.Deciding.{DecidesNamed, DecidesWithin}
+use Rattle.ygg_top.specs.Explaining.{ExplainsNamed}
 use Rattle.ygg_top.specs.Playing.{PlaysNamed, IsCutPlaying}
 use Rattle.ygg_top.specs.Printing.{Prints}
 use Rattle.ygg_top.specs.Replaying.{ReplaysNamed}
@@ -56,6 +57,7 @@ EndsOne kinds files one.Other word = NamesNone
 unfoldable pub EndsTwo : List RuleKind → Option (List Held) → Two → List ℕ → List ℕ → Status → List ℕ → Type 0
 EndsTwo kinds files two.Verify name budget = DoesWithin (Verifies kinds) files name budget
 EndsTwo kinds files two.Replay name schedule = ReplaysNamed files name schedule
+EndsTwo kinds files two.Explain name schedule = ExplainsNamed files name schedule
 EndsTwo kinds files two.Play name script = PlaysNamed files name script
 EndsTwo kinds files two.Solve name budget = DoesWithin Solves files name budget
 EndsTwo kinds files two.Cnf name obligation = AsksNamed kinds files name obligation

@@ -3,6 +3,7 @@ pub use Rattle.ygg_top_command.specs as ygg_top_command
 pub use Rattle.ygg_top_command.specs.ygg_report
 pub use Rattle.ygg_yard.specs.ygg_meaning
 pub mod Replaying
+pub mod Explaining
 pub mod Showing
 pub mod Verdict
 pub mod Verifying

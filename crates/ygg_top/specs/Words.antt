@@ -32,6 +32,7 @@ abbrev pub two_of : List ℕ → Two
 two_of word =
     if bytes_eq word (codes "verify") then two.Verify else
     if bytes_eq word (codes "replay") then two.Replay else
+    if bytes_eq word (codes "explain") then two.Explain else
     if bytes_eq word (codes "play") then two.Play else
     if bytes_eq word (codes "solve") then two.Solve else
     if bytes_eq word (codes "cnf") then two.Cnf else

@@ -18,7 +18,8 @@ use crate::running::run;
 use crate::solving::{solve, solve_within};
 use crate::words::{Alone, OnImage, One, Three, Two};
 use crate::{
-    certify, certify_within, check, decide, decide_within, demo, replay, verify, verify_within,
+    certify, certify_within, check, decide, decide_within, demo, explain, replay, verify,
+    verify_within,
 };
 use std::alloc::Global;
 use ygg_base::{Device, Library, Reason, Sink, Status, Text};
@@ -27,7 +28,7 @@ use ygg_rules::{Book, RuleBook};
 use ygg_top_command::{CommandStop, USUAL_BUDGET, end};
 
 /// Runs the command that the words name, and ends with its status: `verify FILE`, `verify FILE BUDGET`, `print FILE`, `demo N`, `replay FILE SCHEDULE`,
-/// `play FILE SCRIPT`, `solve CNF`, `solve CNF BUDGET`, `cnf FILE OBLIGATION`, `decide FILE OBLIGATION`, `decide FILE OBLIGATION BUDGET`, `certify FILE`,
+/// `explain FILE SCHEDULE`, `play FILE SCRIPT`, `solve CNF`, `solve CNF BUDGET`, `cnf FILE OBLIGATION`, `decide FILE OBLIGATION`, `decide FILE OBLIGATION BUDGET`, `certify FILE`,
 /// `certify FILE BUDGET`, `check FILE CERTIFICATE`, `format FILE IMAGE`, `run FILE CERTIFICATE IMAGE SCRIPT`, and alone `--help` or `--version`.
 /// Other words are refused 71 at `0:0`. Nothing is printed before
 /// all refusals are judged; the lines of `verify` are put one by one, each as soon as its obligation is decided, those of `play` as its history goes on, and
@@ -183,6 +184,7 @@ fn with_two<B: Book, L: Library, K: Sink>(
     match command {
         Two::Verify => verify_within(alloc, rules, first, second, library, sink),
         Two::Replay => replay(alloc, first, second, library, sink),
+        Two::Explain => explain(alloc, first, second, library, sink),
         Two::Play => play(alloc, first, second, library, sink),
         Two::Solve => solve_within(alloc, first, second, library, sink),
         Two::Cnf => cnf(alloc, rules, first, second, library, sink),

@@ -10,6 +10,8 @@ ygg verifies storage software that must survive power failure.
   ygg check FILE CERT        checks that CERT is one, without any search
   ygg print FILE             prints FILE in its one canonical text
   ygg replay FILE SCHEDULE   runs the schedule of an obligation of FILE on values
+  ygg explain FILE SCHEDULE  tells what such a run comes to, and which parts of which
+                             line of FILE are false there
   ygg play FILE SCRIPT       runs the layers of FILE on a disk in memory
   ygg format FILE IMAGE      makes an image of the disk of FILE, as FILE formats it
   ygg run FILE CERT IMAGE SCRIPT
@@ -53,6 +55,12 @@ replay prints one line:
   hypothesis I   the hypothesis of this number, from 0, is the first false one
   holds BITS     the conclusion holds first where the specification picks these
 
+explain prints where the runs end, what the specification allows with each list of
+its picks, and each part of relate and always there, at its line and column:
+
+  true WHICH L:C         it holds
+  false WHICH L:C A B    it doesn't, since its sides have these values
+
 play prints the disk calls of what the lines of SCRIPT do, and after each:
 
   done           the call or the background step was whole
@@ -93,9 +101,9 @@ How commands end, and the last line that they print:
   1  refuted NAME                 the first obligation that fails, and then a
                                   schedule that violates it
   1  bad NAME ID                  check, run: the certificate shows nothing
-  1  shows NAME                   replay: the obligation is violated
+  1  shows NAME                   replay, explain: the obligation is violated
   2  refused NUMBER LINE:COLUMN   the words or a file are refused there
-  2  hypothesis I, or holds BITS  replay: the obligation is not violated
+  2  hypothesis I, or holds BITS  replay, explain: the obligation is not violated
   3  undecided                    none fails, and one has spent its budget
   3  undecided                    solve: the budget was spent
   3  spent NAME K                 decide: so it was

@@ -38,6 +38,8 @@ pub enum Two {
     Verify,
     /// `replay FILE SCHEDULE`.
     Replay,
+    /// `explain FILE SCHEDULE`.
+    Explain,
     /// `play FILE SCRIPT`.
     Play,
     /// `solve CNF BUDGET`.
@@ -123,6 +125,9 @@ impl Two {
         }
         if word == b"replay".as_slice() {
             return Two::Replay;
+        }
+        if word == b"explain".as_slice() {
+            return Two::Explain;
         }
         if word == b"play".as_slice() {
             return Two::Play;

@@ -22,6 +22,14 @@ returns-in-Replay-clause-told g c =
     (Rose (g.K.Sink.faults c.args.sink.now) (g.K.Sink.faults c.replay.new.sink)) c.replay.result c.args.command command.Replay c.in-Replay.is
     c.replay.ensures.told
 
+pub returns-in-Explain-clause-told : goal.returns-in-Explain-clause-told
+unfolding EndsTwo LeavesTwo
+returns-in-Explain-clause-told g c =
+    two_so (g.B.Book.kinds c.args.rules.now) (g.L.Library.files c.args.library.now) c.args.first.now c.args.second.now (g.K.Sink.taken c.args.sink.now)
+    (g.K.Sink.taken c.explain.new.sink) (Rose (g.L.Library.faults c.args.library.now) (g.L.Library.faults c.explain.new.library))
+    (Rose (g.K.Sink.faults c.args.sink.now) (g.K.Sink.faults c.explain.new.sink)) c.explain.result c.args.command command.Explain c.in-Explain.is
+    c.explain.ensures.told
+
 pub returns-in-Play-clause-told : goal.returns-in-Play-clause-told
 unfolding EndsTwo LeavesTwo
 returns-in-Play-clause-told g c =
