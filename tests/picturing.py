@@ -166,8 +166,8 @@ def taken(top):
     found = refused(top, text, "--source", str(top / "examples" / "flag.ygg"))
     yield "another file's text", None if found == f"picture: line {line}: flag.ygg has nothing at {text.splitlines()[line - 1].split()[2]}\n" else repr(found)
     drawing = (top / "examples" / "pair_broken.svg").read_text()
-    is_right = asked(top, text, "--svg", *source) == (0, drawing, "")
-    yield "examples/pair_broken.svg", None if is_right else "it isn't the drawing of tests/pictures/pair_broken.explain"
+    is_right = asked(top, (top / "tests" / "pictures" / "pair_without_runs.explain").read_text(), "--svg", *source) == (0, drawing, "")
+    yield "examples/pair_broken.svg", None if is_right else "it isn't the drawing of tests/pictures/pair_without_runs.explain"
     found = refused(top, text, "--source", "/nowhere")
     yield "an absent file", None if found == "picture: /nowhere: No such file or directory\n" else repr(found)
     for words in (["--png"], ["--svg", "--svg"], ["--source"], ["--source", "a", "--source", "b"], ["x"]):
