@@ -1,4 +1,5 @@
-"""tools/picture: the pages and drawings of the texts of tests/pictures/, texts that it doesn't take, and pages in chromium, where that is installed.
+"""tools/picture: the pages and drawings of the texts of tests/pictures/, and of what `explain` prints of each refuted file of examples/ and its folders; texts
+that it doesn't take; and pages in chromium, where that is installed.
 
 A page is whole HTML, a drawing whole XML. Neither names anything that would be loaded, neither is too long, and a page has every value of its text. In chromium
 a page asks for nothing but itself and no message comes. What it looks like is kept in build/out/pictures/.
@@ -165,8 +166,8 @@ def taken(top):
     found = refused(top, text, "--source", str(top / "examples" / "flag.ygg"))
     yield "another file's text", None if found == f"picture: line {line}: flag.ygg has nothing at {text.splitlines()[line - 1].split()[2]}\n" else repr(found)
     drawing = (top / "examples" / "pair_broken.svg").read_text()
-    is_right = asked(top, text, "--svg", *source) == (0, drawing, "")
-    yield "examples/pair_broken.svg", None if is_right else "it isn't the drawing of tests/pictures/pair_broken.explain"
+    is_right = asked(top, (top / "tests" / "pictures" / "pair_without_runs.explain").read_text(), "--svg", *source) == (0, drawing, "")
+    yield "examples/pair_broken.svg", None if is_right else "it isn't the drawing of tests/pictures/pair_without_runs.explain"
     found = refused(top, text, "--source", "/nowhere")
     yield "an absent file", None if found == "picture: /nowhere: No such file or directory\n" else repr(found)
     for words in (["--png"], ["--svg", "--svg"], ["--source"], ["--source", "a", "--source", "b"], ["x"]):
@@ -243,8 +244,8 @@ class Chromium:
         self.child.wait(30)
 
 
-def looked_at(top, all_texts):
-    """What is wrong of each page in chromium, where it is installed."""
+def looked_at(top, all_texts, both):
+    """What is wrong of each page in chromium, where it is installed, and of the drawings alone of some names."""
     program = shutil.which("chromium") or shutil.which("chromium-browser")
     if program is None:
         print("tests: chromium isn't installed, so the pages of tools/picture aren't looked at", file=sys.stderr)
@@ -255,7 +256,7 @@ def looked_at(top, all_texts):
         chromium = Chromium(program, folder)
         try:
             for name, text, source in all_texts:
-                for ending, words in ((".html", source), (".svg", ["--svg", *source])):
+                for ending, words in ((".html", source), (".svg", ["--svg", *source]))[: 2 if name in both else 1]:
                     page = kept / (name + ending)
                     page.write_text(asked(top, text, *words)[1])
                     yield f"{page.name} in chromium", chromium.shown(page, kept / f"{page.name}.png")
@@ -265,15 +266,35 @@ def looked_at(top, all_texts):
             chromium.end()
 
 
-def cases(top):
+def explained(top, ygg):
+    """What `explain` prints of the schedule of each refuted file of examples/ and its folders: the file's name, the text, and the words that name the file."""
+    for file in sorted((top / "examples").rglob("*.ygg")):
+        _, _, rest = printed(ygg, "verify", file).partition("ygg-schedule ")
+        if rest:
+            with tempfile.NamedTemporaryFile("w") as schedule:
+                schedule.write("ygg-schedule " + rest)
+                schedule.flush()
+                yield file.stem, printed(ygg, "explain", file, schedule.name), ["--source", str(file)]
+
+
+def printed(ygg, *words):
+    return subprocess.run([ygg, *map(str, words)], stdin=subprocess.DEVNULL, capture_output=True, text=True, timeout=600).stdout
+
+
+def cases(top, ygg):
     """All cases, each by its name, and what is wrong of it, or None."""
     yield from taken(top)
-    yield from looked_at(top, texts(top))
+    found = list(explained(top, ygg))
+    for name, text, source in found:
+        yield f"the picture of what explain prints of {name}", undrawn(top, text, *source)
+    names = {name for name, _, _ in found}
+    yield from looked_at(top, found + [one for one in texts(top) if one[0] not in names], {name for name, _, _ in texts(top)})
 
 
 def main():
     failed = 0
-    for name, difference in cases(pathlib.Path(__file__).resolve().parent.parent):
+    top = pathlib.Path(__file__).resolve().parent.parent
+    for name, difference in cases(top, os.environ.get("YGG") or str(top / "ygg")):
         if difference:
             failed += 1
             print(f"FAIL {name}: {difference}")
